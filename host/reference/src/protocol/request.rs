@@ -64,26 +64,49 @@ fn buffer_size(word: &str) -> Option<usize> {
     number(word).filter(|&size| size <= BUFFER_MAX)
 }
 
+impl Request {
+    /// The word that the line begins with.
+    pub fn word(&self) -> &'static str {
+        match self {
+            Request::New { .. } => "new",
+            Request::Rec(_) => "rec",
+            Request::Piece(_) => "piece",
+            Request::Read(_) => "read",
+            Request::TSet(_) => "tset",
+            Request::TRead(_) => "tread",
+            Request::List(_) => "list",
+            Request::Choose(..) => "choose",
+            Request::Judge(..) => "judge",
+            Request::MRec(_) => "mrec",
+            Request::MEv(..) => "mev",
+        }
+    }
+}
+
 impl Display for Request {
     /// The request's line, without a newline.
     fn fmt(&self, f: &mut Formatter<'_>) -> fmt::Result {
+        write!(f, "{} ", self.word())?;
         match self {
-            Request::New { slot, join, fill } => write!(f, "new {slot} {join} {fill}"),
-            Request::Rec(record) => write!(f, "rec {}", write_collection(record)),
-            Request::Piece(body) => write!(f, "piece {}", hex(body)),
-            Request::Read(message) => write!(f, "read j128 {}", hex(message)),
-            Request::TSet(table) => write!(f, "tset {}", write_table(table)),
-            Request::TRead(message) => write!(f, "tread j128 {}", hex(message)),
-            Request::List(body) => write!(f, "list {}", hex(body)),
+            Request::New { slot, join, fill } => write!(f, "{slot} {join} {fill}"),
+            Request::Rec(record) => write!(f, "{}", write_collection(record)),
+            Request::Piece(body) | Request::List(body) => write!(f, "{}", hex(body)),
+            Request::Read(message) | Request::TRead(message) => write!(f, "j128 {}", hex(message)),
+            Request::TSet(table) => write!(f, "{}", write_table(table)),
             Request::Choose(client, ucid) => {
-                write!(f, "choose {} {}", write_client(*client), or_dash(*ucid))
+                write!(f, "{} {}", write_client(*client), or_dash(*ucid))
             }
             Request::Judge(client, ucid, frame) => {
-                let (client, ucid) = (write_client(*client), or_dash(*ucid));
-                write!(f, "judge {client} {ucid} {}", hex(frame))
+                write!(
+                    f,
+                    "{} {} {}",
+                    write_client(*client),
+                    or_dash(*ucid),
+                    hex(frame)
+                )
             }
-            Request::MRec(record) => write!(f, "mrec {}", write_modem(record)),
-            Request::MEv(now, event) => write!(f, "mev {now} {}", write_event(*event)),
+            Request::MRec(record) => write!(f, "{}", write_modem(record)),
+            Request::MEv(now, event) => write!(f, "{now} {}", write_event(*event)),
         }
     }
 }
