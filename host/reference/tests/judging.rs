@@ -5,6 +5,7 @@ mod support;
 use reference::choosing::{choose_rule, judge_frame, Verdict};
 use reference::table::{Classifier, Client, Rule, Table};
 use reference::Refusal;
+use std::slice::from_ref;
 
 const TUNNEL: [u8; 6] = [1, 0, 0x5E, 5, 5, 5];
 const CLIENT: Client = Client::Application(42);
@@ -82,7 +83,7 @@ fn judged<'f>(table: &Table, frame: &'f [u8]) -> Verdict<'f> {
 
 /// Whether the frame passes the classifier, which the table's only rule names.
 fn passes(classifier: &Classifier, frame: &[u8]) -> bool {
-    match judged(&classified(&[classifier.clone()]), frame) {
+    match judged(&classified(from_ref(classifier)), frame) {
         Verdict::Forward(number, _) => {
             assert_eq!(number, classifier.number);
             true
@@ -359,7 +360,7 @@ fn judges_a_frame_cut_at_every_length() {
     for cut in 0..=frame.len() {
         let short = &frame[..cut];
         if cut < 14 {
-            let table = classified(&[plain.clone()]);
+            let table = classified(from_ref(&plain));
             assert_eq!(
                 judge_frame(&table, CLIENT, None, short),
                 Err(Refusal::whole(16))
