@@ -6,110 +6,115 @@ use crate::tables::timers;
 use reference::modem::{step, Event, Fault, Record, State, BACK_MS, TIMER_MAX_MS};
 use reference::protocol::request::Request;
 
-/// A record or a start, then events that follow it.
+/// A record, then events that follow it.
 pub fn scenario(random: &mut Random) -> Vec<Request> {
-    let mut record = starting_record(random);
+    let mut record = first_record(random);
     let mut requests = vec![Request::MRec(record.clone())];
-    if random.once_in(4) {
-        let clock = clock(random);
-        requests.push(event(&mut record, clock, Event::Start(random.once_in(2))));
-    }
-    for _ in 0..random.between(1, 24) {
+    let few = random.between(1, 8);
+    for _ in 0..random.pick(&[few, few, few, 30]) {
         let now = next_clock(random, &record);
-        let next = next_event(random, record.state);
-        requests.push(event(&mut record, now, next));
+        let event = next_event(random, &record);
+        requests.push(Request::MEv(now, event));
+        record = step(&record, now, event).unwrap_or(record);
     }
     requests
 }
 
-/// The request for an event, whose outcome the record follows.
-fn event(record: &mut Record, now: u32, event: Event) -> Request {
-    if let Ok(next) = step(record, now, event) {
-        *record = next;
-    }
-    Request::MEv(now, event)
-}
-
-fn starting_record(random: &mut Random) -> Record {
-    let mut record = sound_record(random);
+fn first_record(random: &mut Random) -> Record {
     if random.once_in(3) {
-        break_record(random, &mut record);
+        return broken_record(random);
     }
-    record
+    let state = random.pick(&[
+        State::Idle,
+        State::Scanning,
+        State::Checking,
+        State::OneWay,
+        State::OneWay,
+        State::OneWay,
+        State::Ranging,
+        State::Ranging,
+        State::TwoWay,
+        State::TwoWay,
+        State::TwoWay,
+        State::Resting,
+    ]);
+    sound_record(random, state)
 }
 
-/// A record that document 01 allows.
-fn sound_record(random: &mut Random) -> Record {
-    let any = random.pick(&State::ALL);
-    let state = random.pick(&[any, any, any, State::OneWay]);
+/// A record in that state that document 01 allows.
+fn sound_record(random: &mut Random, state: State) -> Record {
     let transmits = matches!(state, State::Ranging | State::TwoWay);
     let permitted = transmits || random.once_in(2);
-    let mut record = Record {
+    let still = matches!(state, State::Idle | State::Scanning);
+    let retries = state == State::OneWay && permitted && !random.once_in(4);
+    let retry = timer(random);
+    let receive = if retries && random.once_in(2) {
+        TIMER_MAX_MS
+    } else {
+        timer(random)
+    };
+    Record {
         state,
         last: clock(random),
         permitted,
-        timers: timers(random).map(|timer| timer.max(1)),
-        ..Record::default()
-    };
-    if state != State::Scanning && state != State::Idle {
-        record.receive = Some(timer(random));
+        ucid: (state == State::TwoWay).then(|| random.byte()),
+        timers: sound_timers(random),
+        receive: (!still).then_some(receive),
+        retry: retries.then_some(retry),
     }
-    if state == State::OneWay && permitted {
-        record.retry = Some(timer(random)).filter(|_| !random.once_in(3));
-    }
-    record.ucid = (state == State::TwoWay).then(|| random.byte());
-    record
 }
 
-/// Gives a record one fault of document 01's list.
-fn break_record(random: &mut Random, record: &mut Record) {
+/// Timer values of which only the last two may be 0.
+fn sound_timers(random: &mut Random) -> [u16; 4] {
+    let [t1, t2, t3, t4] = timers(random);
+    [t1.max(1), t2.max(1), t3, t4]
+}
+
+/// A record with one fault of document 01's list.
+fn broken_record(random: &mut Random) -> Record {
+    let fault = random.pick(&Fault::ALL);
+    let state = random.pick(states_of(fault));
     let over = random.pick(&[TIMER_MAX_MS + 1, u32::MAX]);
-    let other_than = |random: &mut Random, taken: State| {
-        let others: Vec<State> = State::ALL.into_iter().filter(|&s| s != taken).collect();
-        random.pick(&others)
-    };
-    match random.pick(&Fault::ALL) {
+    let mut record = sound_record(random, state);
+    match fault {
         Fault::ReceiveOff => record.receive = None,
-        Fault::ReceiveInScanning => {
-            record.state = State::Scanning;
-            record.receive = Some(timer(random));
-        }
+        Fault::ReceiveInScanning => record.receive = Some(timer(random)),
         Fault::RetryOutsideOneWay => {
-            record.state = other_than(random, State::OneWay);
+            record.permitted = true;
             record.retry = Some(timer(random));
         }
         Fault::RetryNotPermitted => {
-            *record = one_way(record, random);
             record.permitted = false;
+            record.retry = Some(timer(random));
         }
-        Fault::UcidOutsideTwoWay => {
-            record.state = other_than(random, State::TwoWay);
-            record.ucid = Some(random.byte());
-        }
-        Fault::TwoWayWithoutUcid => {
-            record.state = State::TwoWay;
-            record.ucid = None;
-        }
+        Fault::UcidOutsideTwoWay => record.ucid = Some(random.byte()),
+        Fault::TwoWayWithoutUcid => record.ucid = None,
         Fault::TransmitterNotPermitted => record.permitted = false,
         Fault::Tdsg1Zero => record.timers[0] = 0,
         Fault::Tdsg2Zero => record.timers[1] = 0,
         Fault::ReceiveTooLong => record.receive = Some(over),
         Fault::RetryTooLong => {
-            *record = one_way(record, random);
+            record.permitted = true;
             record.retry = Some(over);
         }
     }
+    record
 }
 
-/// A permitted OneWay record with both timers running.
-fn one_way(record: &Record, random: &mut Random) -> Record {
-    Record {
-        state: State::OneWay,
-        permitted: true,
-        ucid: None,
-        receive: Some(timer(random)),
-        retry: Some(timer(random)),
-        ..record.clone()
+/// The states in which a record may have the fault and no other.
+fn states_of(fault: Fault) -> &'static [State] {
+    use State::{Checking, OneWay, Ranging, Resting, Scanning, TwoWay};
+    match fault {
+        Fault::ReceiveOff | Fault::ReceiveTooLong => &[Checking, OneWay, Ranging, TwoWay, Resting],
+        Fault::ReceiveInScanning => &[Scanning],
+        Fault::RetryOutsideOneWay => &[Scanning, Checking, Ranging, TwoWay, Resting],
+        Fault::RetryNotPermitted | Fault::RetryTooLong => &[OneWay],
+        Fault::UcidOutsideTwoWay => &[Scanning, Checking, OneWay, Ranging, Resting],
+        Fault::TwoWayWithoutUcid => &[TwoWay],
+        Fault::TransmitterNotPermitted => &[Ranging, TwoWay],
+        Fault::Tdsg1Zero | Fault::Tdsg2Zero => {
+            &[Scanning, Checking, OneWay, Ranging, TwoWay, Resting]
+        }
     }
 }
 
@@ -146,43 +151,35 @@ fn next_clock(random: &mut Random, record: &Record) -> u32 {
     record.last.wrapping_add(step)
 }
 
-/// An event, mostly one that leads on from the state.
-fn next_event(random: &mut Random, state: State) -> Event {
+/// An event: a start where nothing else acts, one that leads on from the state, or any.
+fn next_event(random: &mut Random, record: &Record) -> Event {
+    let start = Event::Start(random.once_in(2));
     let table = Event::TableAccepted(timers(random));
     let up = Event::UpstreamUp(random.byte());
-    let start = Event::Start(random.once_in(2));
-    let named: &[Event] = match state {
+    let state = if record.counts_as_idle() {
+        State::Idle
+    } else {
+        record.state
+    };
+    let leading: &[Event] = match state {
         State::Idle => &[start],
         State::Scanning => &[Event::Locked, Event::Locked, Event::ScanEmpty],
-        State::Checking => &[
-            table,
-            table,
-            table,
-            Event::Tick,
-            Event::Hunt,
-            Event::DownstreamLost,
-        ],
-        State::OneWay => &[
-            Event::Tick,
-            Event::Tick,
-            Event::Enable,
-            Event::Packet,
-            table,
-        ],
-        State::Ranging => &[up, up, Event::UpstreamLost, Event::Disable, Event::Tick],
+        State::Checking => &[table, table, table, Event::Tick],
+        State::OneWay => &[Event::Tick, Event::Tick, Event::Tick, Event::Enable],
+        State::Ranging => &[up, up, up, Event::UpstreamLost, Event::Disable, Event::Tick],
         State::TwoWay => &[
-            Event::Packet,
-            table,
+            Event::UpstreamLost,
             Event::UpstreamLost,
             Event::Disable,
             Event::Tick,
         ],
         State::Resting => &[Event::Tick],
     };
-    if random.once_in(2) {
-        return random.pick(named);
+    if random.once_in(3) {
+        return random.pick(leading);
     }
     random.pick(&[
+        start,
         Event::Locked,
         Event::ScanEmpty,
         table,

@@ -9,10 +9,15 @@ use reference::table::{Classifier, Client, Rule, Table};
 /// A lent table and some requests about it.
 pub fn scenario(random: &mut Random) -> Vec<Request> {
     let (table, lend) = lent_table(random);
+    let reached = |rule: &&Rule| !rule.clients.is_empty();
+    let rules: Vec<&Rule> = table.rules.iter().filter(reached).collect();
+    let questions = if rules.is_empty() {
+        2
+    } else {
+        random.between(4, 24)
+    };
     let mut requests = vec![lend];
-    for _ in 0..random.between(4, 24) {
-        requests.push(question(random, &table));
-    }
+    requests.extend((0..questions).map(|_| question(random, &table, &rules)));
     requests
 }
 
@@ -26,10 +31,9 @@ fn lent_table(random: &mut Random) -> (Table, Request) {
     (table.clone(), Request::TSet(table))
 }
 
-fn question(random: &mut Random, table: &Table) -> Request {
-    let reached = |rule: &&Rule| !rule.clients.is_empty();
-    let rules: Vec<&Rule> = table.rules.iter().filter(reached).collect();
-    let rule = (!rules.is_empty()).then(|| random.pick(&rules));
+/// A question about a client of one of these rules, if there are any.
+fn question(random: &mut Random, table: &Table, rules: &[&Rule]) -> Request {
+    let rule = (!rules.is_empty()).then(|| random.pick(rules));
     let client = near_client(random, rule);
     let ucid = near_ucid(random, rule);
     if random.once_in(4) {
@@ -51,7 +55,7 @@ fn near_client(random: &mut Random, rule: Option<&Rule>) -> Client {
 fn near_ucid(random: &mut Random, rule: Option<&Rule>) -> Option<u8> {
     let listed = rule.filter(|rule| !rule.ucids.is_empty());
     match listed {
-        Some(rule) if !random.once_in(4) => Some(random.pick(&rule.ucids)),
+        Some(rule) if !random.once_in(6) => Some(random.pick(&rule.ucids)),
         _ => ucid(random),
     }
 }
@@ -106,27 +110,26 @@ fn port_for(random: &mut Random, classifier: &Classifier) -> u16 {
 /// Makes one change that a classifier or the frame's own tests may notice.
 fn disturb(random: &mut Random, frame: &mut Vec<u8>) {
     let field = random.pick(&[0..6, 12..14, 14..15, 20..22, 23..24, 26..30, 30..34]);
-    let port = || 36..38;
     match random.below(10) {
         0 => frame.truncate(random.pick(&[0, 13, 14, 15, 33, 34, 37, 38])),
         1 => frame.resize(random.pick(&[1_517, 1_518, 1_519, 1_600]), 0),
         2 => frame.resize(random.pick(&[14, 33, 34, 37, 38, 60]), 0),
-        3 | 4 => move_port(random, frame.get_mut(port())),
-        5 => set_byte(frame, 23, random.pick(&[0, 1, 5, 7, 16, 18])),
+        3 | 4 => move_port(random, frame.get_mut(36..38)),
+        5 => {
+            let protocol = random.pick(&[0, 1, 5, 7, 16, 18]);
+            change_byte(frame, 23, |_| protocol);
+        }
         _ => {
             let at = random.between(field.start, field.end - 1);
             let bit = 1 << random.below(8);
-            let flipped = frame.get(at).map(|byte| byte ^ bit);
-            flipped
-                .into_iter()
-                .for_each(|byte| set_byte(frame, at, byte));
+            change_byte(frame, at, |byte| byte ^ bit);
         }
     }
 }
 
-fn set_byte(frame: &mut [u8], at: usize, value: u8) {
+fn change_byte(frame: &mut [u8], at: usize, change: impl Fn(u8) -> u8) {
     if let Some(byte) = frame.get_mut(at) {
-        *byte = value;
+        *byte = change(*byte);
     }
 }
 

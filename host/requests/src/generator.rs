@@ -58,7 +58,8 @@ impl Iterator for Generator {
     }
 }
 
-/// Requests that belong together. Scenarios differ in length, so the mixture has more of the short.
+/// Requests that belong together. The mixture has more of the short scenarios, so that each area gets
+/// its share of requests.
 fn scenario(random: &mut Random, area: Area) -> Vec<Request> {
     match area {
         Area::Collect => pieces::scenario(random),
@@ -67,11 +68,11 @@ fn scenario(random: &mut Random, area: Area) -> Vec<Request> {
         Area::Modem => events::scenario(random),
         Area::List => vec![listing(random)],
         Area::All => {
-            let area = match random.below(12) {
-                0..=5 => Area::Read,
-                6..=7 => Area::List,
-                8..=9 => Area::Collect,
-                10 => Area::Judge,
+            let area = match random.below(40) {
+                0..=23 => Area::Read,
+                24..=31 => Area::List,
+                32..=34 => Area::Collect,
+                35..=36 => Area::Judge,
                 _ => Area::Modem,
             };
             scenario(random, area)
@@ -81,7 +82,7 @@ fn scenario(random: &mut Random, area: Area) -> Vec<Request> {
 
 fn reading(random: &mut Random) -> Request {
     let message = messages::message(random);
-    if random.once_in(8) {
+    if random.once_in(4) {
         Request::TRead(message)
     } else {
         Request::Read(message)

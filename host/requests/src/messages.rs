@@ -11,8 +11,18 @@ struct Node {
     kind: u8,
     bytes: Vec<u8>,
     row: Vec<Node>,
-    /// A length byte other than the true one.
-    claimed: Option<u8>,
+    form: Form,
+}
+
+/// How an element is written.
+#[derive(Clone, Copy, Default)]
+enum Form {
+    #[default]
+    Whole,
+    /// With this length byte, whatever the value.
+    Claiming(u8),
+    /// The type byte and nothing more.
+    Lone,
 }
 
 fn leaf(kind: u8, bytes: &[u8]) -> Node {
@@ -62,8 +72,12 @@ fn encode(row: &[Node]) -> Vec<u8> {
     let mut bytes = Vec::new();
     for node in row {
         let value = [node.bytes.clone(), encode(&node.row)].concat();
-        let length = node.claimed.unwrap_or(value.len().min(255) as u8);
-        bytes.extend([node.kind, length]);
+        bytes.push(node.kind);
+        match node.form {
+            Form::Whole => bytes.push(value.len().min(255) as u8),
+            Form::Claiming(length) => bytes.push(length),
+            Form::Lone => continue,
+        }
         bytes.extend(value);
     }
     bytes
@@ -159,23 +173,39 @@ fn configuration_node(random: &mut Random, table: &Table) -> Option<Node> {
     (!row.is_empty() || random.once_in(2)).then(|| parent(51, row))
 }
 
-/// Makes one change to a row somewhere in the message.
+/// Makes one change somewhere in the message.
 fn disturb(random: &mut Random, top: &mut Vec<Node>) {
+    if random.once_in(5) {
+        return disturb_numbers(random, top);
+    }
     let row = some_row(random, top);
     let at = random.below(row.len() + 1);
     let other = random.below(row.len());
-    match random.below(15) {
+    match random.below(16) {
         0 => row.insert(at, odd_node(random)),
         1 => row.insert(at, leaf(43, &[0; 3])),
-        2 => row.insert(at, leaf(6, &random.pair().to_be_bytes())),
+        2 => row.push(lone_node(random)),
         3 => row.clear(),
         _ if row.is_empty() => row.insert(at, odd_node(random)),
         4 => row.insert(at, row[other].clone()),
         5..=8 => crowd(random, row, other),
         9 => drop(row.remove(other)),
-        10 => row[other].claimed = Some(wrong_length(random, &row[other])),
-        11..=13 => spoil_value(random, &mut row[other].bytes),
+        10 => row[other].form = Form::Claiming(wrong_length(random, &row[other])),
+        11..=14 => spoil_value(random, &mut row[other].bytes),
         _ => row[other].kind = random.pick(&KINDS),
+    }
+}
+
+/// Repeats a row of the top with its number, or names a classifier that may not be there.
+fn disturb_numbers(random: &mut Random, top: &mut Vec<Node>) {
+    if top.is_empty() {
+        return top.push(odd_node(random));
+    }
+    let at = random.below(top.len());
+    if random.once_in(2) {
+        top.push(top[at].clone());
+    } else {
+        top[at].row.push(leaf(6, &random.pair().to_be_bytes()));
     }
 }
 
@@ -217,6 +247,13 @@ fn some_row<'n>(random: &mut Random, row: &'n mut Vec<Node>) -> &'n mut Vec<Node
 fn odd_node(random: &mut Random) -> Node {
     let length = random.pick(&[0, 0, 1, 2, 4, 6, 17]);
     leaf(random.pick(&KINDS), &random.bytes(length))
+}
+
+fn lone_node(random: &mut Random) -> Node {
+    Node {
+        form: Form::Lone,
+        ..leaf(random.pick(&KINDS), &[])
+    }
 }
 
 fn wrong_length(random: &mut Random, node: &Node) -> u8 {
