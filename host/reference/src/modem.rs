@@ -211,15 +211,11 @@ impl Record {
         })
     }
 
-    /// Enters a state, without what may not be kept there.
+    /// Enters a state. None keeps retry or a UCID from before; a row that gives one does so after.
     fn enter(&mut self, state: State) {
         self.state = state;
-        if state != State::OneWay {
-            self.retry = None;
-        }
-        if state != State::TwoWay {
-            self.ucid = None;
-        }
+        self.retry = None;
+        self.ucid = None;
         if state == State::Scanning {
             self.receive = None;
         }

@@ -175,8 +175,8 @@ fn configuration_node(random: &mut Random, table: &Table) -> Option<Node> {
 
 /// Makes one change somewhere in the message.
 fn disturb(random: &mut Random, top: &mut Vec<Node>) {
-    if random.once_in(5) {
-        return disturb_numbers(random, top);
+    if random.once_in(4) {
+        return disturb_row(random, top);
     }
     let row = some_row(random, top);
     let at = random.below(row.len() + 1);
@@ -196,18 +196,51 @@ fn disturb(random: &mut Random, top: &mut Vec<Node>) {
     }
 }
 
-/// Repeats a row of the top with its number, or names a classifier that may not be there.
-fn disturb_numbers(random: &mut Random, top: &mut Vec<Node>) {
-    if top.is_empty() {
-        return top.push(odd_node(random));
+/// Repeats a row of the top with its number, or gives it a child at or beyond some limit.
+fn disturb_row(random: &mut Random, top: &mut Vec<Node>) {
+    let kind = random.pick(&[23, 50, 51]);
+    let alike: Vec<usize> = (0..top.len()).filter(|&at| top[at].kind == kind).collect();
+    if alike.is_empty() {
+        return top.push(parent(kind, vec![child_at_limit(random, kind)]));
     }
-    let at = random.below(top.len());
-    if random.once_in(2) {
-        top.push(top[at].clone());
-    } else {
-        top[at].row.push(leaf(6, &random.pair().to_be_bytes()));
+    let at = random.pick(&alike);
+    if random.once_in(3) {
+        return top.push(top[at].clone());
+    }
+    let child = child_at_limit(random, kind);
+    if ![(50, 6), (51, 1)].contains(&(kind, child.kind)) {
+        top[at].row.retain(|other| other.kind != child.kind);
+    }
+    top[at].row.push(child);
+}
+
+/// A child for a row of that type.
+fn child_at_limit(random: &mut Random, row: u8) -> Node {
+    let pair = random.pair().to_be_bytes();
+    let ucids = random.pick(&[0, 1, 15, 16, 17, 100]);
+    let timer = random.pick(&[2, 3, 4, 5]);
+    match (row, random.once_in(2)) {
+        (50, true) => leaf(6, &pair),
+        (50, false) => leaf(3, &vec![7; ucids]),
+        (51, true) => leaf(1, &random.pick(&CHANNELS).to_be_bytes()),
+        (51, false) => leaf(timer, &pair),
+        _ => leaf(2, &pair),
     }
 }
+
+/// Channels about the ends of their range, in it and beyond.
+const CHANNELS: [u32; 10] = [
+    0,
+    62_499,
+    62_500,
+    62_501,
+    125_000,
+    999_937_500,
+    1_000_000_000,
+    1_000_000_001,
+    1_000_062_500,
+    4_294_937_500,
+];
 
 /// Repeats an element until there are as many as a list holds, or one more. Rows that carry a number
 /// get another each time.
