@@ -2,44 +2,9 @@
 //! bytes, cut short, or filled up to and beyond the greatest length.
 
 use crate::random::Random;
+use crate::rows::{encode, leaf, parent, table_nodes, Form, Node};
 use crate::tables::sound_table;
-use reference::table::{Classifier, Client, Rule, Table, DEFAULT_TIMERS, MESSAGE_MAX};
-
-/// An element: its value is the bytes, then the row.
-#[derive(Clone, Default)]
-struct Node {
-    kind: u8,
-    bytes: Vec<u8>,
-    row: Vec<Node>,
-    form: Form,
-}
-
-/// How an element is written.
-#[derive(Clone, Copy, Default)]
-enum Form {
-    #[default]
-    Whole,
-    /// With this length byte, whatever the value.
-    Claiming(u8),
-    /// The type byte and nothing more.
-    Lone,
-}
-
-fn leaf(kind: u8, bytes: &[u8]) -> Node {
-    Node {
-        kind,
-        bytes: bytes.to_vec(),
-        ..Node::default()
-    }
-}
-
-fn parent(kind: u8, row: Vec<Node>) -> Node {
-    Node {
-        kind,
-        row,
-        ..Node::default()
-    }
-}
+use reference::table::{Table, MESSAGE_MAX};
 
 /// A message: one in three whole, the others with something wrong or at least odd.
 pub fn message(random: &mut Random) -> Vec<u8> {
@@ -66,111 +31,6 @@ pub fn message(random: &mut Random) -> Vec<u8> {
 /// A message that gives just this table.
 pub fn message_of(random: &mut Random, table: &Table) -> Vec<u8> {
     encode(&table_nodes(random, table))
-}
-
-fn encode(row: &[Node]) -> Vec<u8> {
-    let mut bytes = Vec::new();
-    for node in row {
-        let value = [node.bytes.clone(), encode(&node.row)].concat();
-        bytes.push(node.kind);
-        match node.form {
-            Form::Whole => bytes.push(value.len().min(255) as u8),
-            Form::Claiming(length) => bytes.push(length),
-            Form::Lone => continue,
-        }
-        bytes.extend(value);
-    }
-    bytes
-}
-
-/// The elements of a sound table. Rows of one kind keep the table's order, which the message fixes;
-/// the order of everything else is free.
-fn table_nodes(random: &mut Random, table: &Table) -> Vec<Node> {
-    let mut groups = [
-        table
-            .rules
-            .iter()
-            .map(|rule| rule_node(random, rule))
-            .collect::<Vec<Node>>(),
-        table
-            .classifiers
-            .iter()
-            .map(|c| classifier_node(random, c))
-            .collect(),
-        configuration_node(random, table).into_iter().collect(),
-    ];
-    random.shuffle(&mut groups);
-    groups.concat()
-}
-
-fn rule_node(random: &mut Random, rule: &Rule) -> Node {
-    let mut row = vec![
-        leaf(1, &[rule.number]),
-        parent(4, rule.clients.iter().map(client_node).collect()),
-        leaf(5, &rule.tunnel),
-    ];
-    if rule.priority > 0 || random.once_in(2) {
-        row.push(leaf(2, &[rule.priority]));
-    }
-    if !rule.ucids.is_empty() {
-        row.push(leaf(3, &rule.ucids));
-    }
-    random.shuffle(&mut row);
-    let named = rule
-        .classifiers
-        .iter()
-        .map(|number| leaf(6, &number.to_be_bytes()));
-    let at = random.below(row.len() + 1);
-    row.splice(at..at, named);
-    parent(50, row)
-}
-
-fn client_node(client: &Client) -> Node {
-    match client {
-        Client::EmptyBroadcast => leaf(1, &[]),
-        Client::Broadcast(value) => leaf(1, &value.to_be_bytes()),
-        Client::Mac(address) => leaf(2, address),
-        Client::CaSystem(value) => leaf(3, &value.to_be_bytes()),
-        Client::Application(value) => leaf(4, &value.to_be_bytes()),
-    }
-}
-
-fn classifier_node(random: &mut Random, classifier: &Classifier) -> Node {
-    let mut ip = vec![leaf(5, &classifier.destination)];
-    ip.extend(classifier.source.map(|bytes| leaf(3, &bytes)));
-    ip.extend(classifier.mask.map(|bytes| leaf(4, &bytes)));
-    ip.extend(
-        classifier
-            .port_start
-            .map(|port| leaf(9, &port.to_be_bytes())),
-    );
-    ip.extend(
-        classifier
-            .port_end
-            .map(|port| leaf(10, &port.to_be_bytes())),
-    );
-    random.shuffle(&mut ip);
-    let mut row = vec![
-        leaf(2, &classifier.number.to_be_bytes()),
-        leaf(5, &[classifier.priority]),
-        parent(9, ip),
-    ];
-    random.shuffle(&mut row);
-    parent(23, row)
-}
-
-fn configuration_node(random: &mut Random, table: &Table) -> Option<Node> {
-    let channels = table.channels.iter().map(|hz| leaf(1, &hz.to_be_bytes()));
-    let mut row: Vec<Node> = channels.collect();
-    for ((kind, timer), default) in (2..).zip(table.timers).zip(DEFAULT_TIMERS) {
-        if timer != default || random.once_in(3) {
-            row.insert(
-                random.below(row.len() + 1),
-                leaf(kind, &timer.to_be_bytes()),
-            );
-        }
-    }
-    (!row.is_empty() || random.once_in(2)).then(|| parent(51, row))
 }
 
 /// Makes one change somewhere in the message.
