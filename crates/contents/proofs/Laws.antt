@@ -1,9 +1,10 @@
 -- Laws of rows and folds (specs/Rows.antt): the count of bytes left does not matter, and one law for each thing that can stand at a place.
 --
 --   rowIn-rule     a row is what its first head says, with the row from the next place on behind it
---   rowIn-stop     no element there: every fold ends        rowIn-item   an element and the row behind it
---   fold-stop      a fold where no element stands           fold-item    a fold over an element, then over the rest
---   fold-inside    a fold over the value of an element      fold-nowhere a fold where no element stands
+--   rowIn-stop     no element stands there: done or bad     rowIn-item      an element and the row behind it
+--   fold-stop      a fold where no element stands           fold-item       a fold over an element, then over the rest
+--   rowInside-done no element stands there                  rowInside-row   the row that an element's value is
+--   item-fits      an element's bytes lie in its row and in the message
 --   fold-keeps     what every step keeps, a fold keeps
 -- Trusts: nothing.
 use Prim.Native.Nat.{ℕ, zero, suc, _+_, _-_, _≤_, _<_, min}
@@ -52,34 +53,39 @@ module _ (msg : List ℕ) (at end : ℕ) where
   pub item-fits : {h : Head} {len : ℕ} → h ≡ headAt msg at end → h ≡ Value len → (at + 2 + len ≤ end) × (at + 2 + len ≤ length msg) × (len ≡ lengthByte msg at)
   item-fits e v = headAt-fits msg at end (sym e ∙ v)
 
+-- no element stands there: the row is done, or its head is bad
+pub rowIn-stop : (P : Row → Type 0) (msg : List ℕ) (at end : ℕ) {h : Head} → h ≡ headAt msg at end → ((len : ℕ) → h ≡ Value len → ⊥)
+    → P done → ((n : ℕ) → P (bad at n)) → P (rowIn msg at end)
+rowIn-stop P msg at end {h} e never d b = rw (rowIn-rule msg at end, ← e) (on h never)
+  where
+    on : (k : Head) → ((len : ℕ) → k ≡ Value len → ⊥) → P (rowWith (λ next. rowIn msg next end) at k)
+    on End never = d
+    on (Refused n) never = b n
+    on (Value len) never = absurd (never len refl)
+
 module _ {A : Type 0} (step : ℕ → ℕ → A → A) (msg : List ℕ) (at end : ℕ) (so : A) where
   -- no element stands there
   pub fold-stop : {h : Head} → h ≡ headAt msg at end → ((len : ℕ) → h ≡ Value len → ⊥) → so ≡ rowFold step (rowIn msg at end) so
-  fold-stop {h} e never = on h e never
-    where
-      on : (k : Head) → k ≡ headAt msg at end → ((len : ℕ) → k ≡ Value len → ⊥) → so ≡ rowFold step (rowIn msg at end) so
-      on End e never = simp (rowIn-rule msg at end, ← e)
-      on (Refused n) e never = simp (rowIn-rule msg at end, ← e)
-      on (Value len) e never = absurd (never len refl)
+  fold-stop e never = rowIn-stop (λ row. so ≡ rowFold step row so) msg at end e never refl (λ n. refl)
 
   pub fold-item : {h : Head} {len : ℕ} {now : A} → h ≡ headAt msg at end → h ≡ Value len → now ≡ step at len so
       → rowFold step (rowIn msg (at + 2 + len) end) now ≡ rowFold step (rowIn msg at end) so
   fold-item e v s = simp (s, rowIn-item msg at end e v)
 
 -- the row in an element's value
-module _ {A : Type 0} (step : ℕ → ℕ → A → A) (msg : List ℕ) (at : ℕ) (so : A) where
-  pub fold-nowhere : {h : Head} → h ≡ headAt msg at (length msg) → ((len : ℕ) → h ≡ Value len → ⊥) → so ≡ rowFold step (rowInside msg at) so
+module _ (msg : List ℕ) (at : ℕ) where
+  pub rowInside-done : {h : Head} → h ≡ headAt msg at (length msg) → ((len : ℕ) → h ≡ Value len → ⊥) → rowInside msg at ≡ done
   unfolding rowInside
-  fold-nowhere {h} e never = on h e never
+  rowInside-done {h} e never = rw (← e) (on h never)
     where
-      on : (k : Head) → k ≡ headAt msg at (length msg) → ((len : ℕ) → k ≡ Value len → ⊥) → so ≡ rowFold step (rowInside msg at) so
-      on End e never = simp (← e)
-      on (Refused n) e never = simp (← e)
-      on (Value len) e never = absurd (never len refl)
+      on : (k : Head) → ((len : ℕ) → k ≡ Value len → ⊥) → rowOfHead msg at k ≡ done
+      on End never = refl
+      on (Refused n) never = refl
+      on (Value len) never = absurd (never len refl)
 
-  pub fold-inside : {h : Head} {len : ℕ} → h ≡ headAt msg at (length msg) → h ≡ Value len → rowFold step (rowIn msg (at + 2) (at + 2 + len)) so ≡ rowFold step (rowInside msg at) so
+  pub rowInside-row : {h : Head} {len : ℕ} → h ≡ headAt msg at (length msg) → h ≡ Value len → rowInside msg at ≡ rowIn msg (at + 2) (at + 2 + len)
   unfolding rowInside
-  fold-inside e v = simp (← e, v)
+  rowInside-row e v = simp (← e, v)
 
 module _ {A : Type 0} (P : A → Type 0) (step : ℕ → ℕ → A → A) (keep : (at len : ℕ) (so : A) → P so → P (step at len so)) where
   pub fold-keeps : (row : Row) (so : A) → P so → P (rowFold step row so)

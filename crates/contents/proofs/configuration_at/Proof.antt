@@ -6,17 +6,17 @@ use mathlib.Core.Path.{_≡_, sym, _∙_}
 use mathlib.Core.Logic.{⊎-elim}
 use native.Mathlib.Omega.{arith}
 use Rattle.contents.specs.Configurations.{configurationAt}
-use Rattle.contents.proofs.Laws.{item-fits, fold-nowhere, fold-inside}
+use Rattle.contents.proofs.Laws.{item-fits, rowInside-done, rowInside-row}
 use Rattle.contents.proofs.configuration_at.Statement.{statement}
 use Rattle.contents.proofs.configuration_at.Tie as tie
 
 returns : tie.Need-returns
 unfolding configurationAt
-returns c = c .empty-configuration .ensures ∙ fold-nowhere _ _ _ _ (c .before .before .read-head .ensures) (λ len v. ⊎-elim (λ (z : _≡_ {A = ℕ} 2 0). omega arith) (λ (z : _≡_ {A = ℕ} 2 1). omega arith) (rw v at (c .before .match .keys2)))
+returns c = c .empty-configuration .ensures ∙ simp (rowInside-done _ _ (c .before .before .read-head .ensures) (λ len v. ⊎-elim (λ (z : _≡_ {A = ℕ} 2 0). omega arith) (λ (z : _≡_ {A = ℕ} 2 1). omega arith) (rw v at (c .before .match .keys2))))
 
 returns-2 : tie.Need-returns-2
 unfolding configurationAt
-returns-2 c = c .configuration-in .ensures ∙ fold-inside _ _ _ _ (c .before .before .before .before .read-head .ensures) (c .before .before .len .given .1)
+returns-2 c = c .configuration-in .ensures ∙ simp (rowInside-row _ _ (c .before .before .before .before .read-head .ensures) (c .before .before .len .given .1))
 
 pub configuration-at-spec : {M : Type 1} → statement M
 configuration-at-spec =

@@ -6,17 +6,17 @@ use mathlib.Core.Path.{_≡_, sym, _∙_}
 use mathlib.Core.Logic.{⊎-elim}
 use native.Mathlib.Omega.{arith}
 use Rattle.contents.specs.Rules.{ruleAt}
-use Rattle.contents.proofs.Laws.{item-fits, fold-nowhere, fold-inside}
+use Rattle.contents.proofs.Laws.{item-fits, rowInside-done, rowInside-row}
 use Rattle.contents.proofs.rule_at.Statement.{statement}
 use Rattle.contents.proofs.rule_at.Tie as tie
 
 returns : tie.Need-returns
 unfolding ruleAt
-returns c = c .empty-rule .ensures ∙ fold-nowhere _ _ _ _ (c .before .before .read-head .ensures) (λ len v. ⊎-elim (λ (z : _≡_ {A = ℕ} 2 0). omega arith) (λ (z : _≡_ {A = ℕ} 2 1). omega arith) (rw v at (c .before .match .keys2)))
+returns c = c .empty-rule .ensures ∙ simp (rowInside-done _ _ (c .before .before .read-head .ensures) (λ len v. ⊎-elim (λ (z : _≡_ {A = ℕ} 2 0). omega arith) (λ (z : _≡_ {A = ℕ} 2 1). omega arith) (rw v at (c .before .match .keys2))))
 
 returns-2 : tie.Need-returns-2
 unfolding ruleAt
-returns-2 c = c .rule-in .ensures ∙ fold-inside _ _ _ _ (c .before .before .before .before .read-head .ensures) (c .before .before .len .given .1)
+returns-2 c = c .rule-in .ensures ∙ simp (rowInside-row _ _ (c .before .before .before .before .read-head .ensures) (c .before .before .len .given .1))
 
 pub rule-at-spec : {M : Type 1} → statement M
 rule-at-spec =
