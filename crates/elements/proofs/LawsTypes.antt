@@ -135,3 +135,7 @@ small-at (l ∷ ls) d i h e = go (ltb (l .7) 8) refl i e (λ k. small-at ls d k 
 pub lineAt-list : (i : ℕ) {l : Line} → l ≡ lineAt i → l .7 < 8
 unfolding lineAt lines small
 lineAt-list i e = rw (e, table-lines) (small-at lines (lineOf 0 26 (Bytes 0) false false Any 0 0) i (omega arith) refl)
+
+pub typeUnder-list : (p t : ℕ) {known : Known} → known ≡ typeUnder p t → known .list < 8
+unfolding typeUnder knownAt
+typeUnder-list p t e = rw e (lineAt-list (placeIn 0 26 p t) refl)
