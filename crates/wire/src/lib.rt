@@ -47,6 +47,14 @@ fn pair(bytes: &[u8], at: usize) -> u16
     (bytes[at] as u16) * 256 + (bytes[at + 1] as u16)
 }
 
+// The number of four bytes that are there.
+fn four(bytes: &[u8], at: usize) -> u32
+    requires { ⌜ at + 4 ≤ length (now bytes) ⌝ }
+    ensures { λ r. ⌜ r ≡ numberAt 4 (now (bytes .entry)) at ⌝ }
+{
+    (pair(bytes, at) as u32) * 65536 + (pair(bytes, at + 2) as u32)
+}
+
 // The number of the two bytes from `at`.
 pub fn number2(bytes: &[u8], at: usize) -> u16
     ensures { λ r. ⌜ r ≡ numberAt 2 (now (bytes .entry)) at ⌝ }
@@ -64,7 +72,7 @@ pub fn number4(bytes: &[u8], at: usize) -> u32
     if left_at(bytes.len(), at) < 4 {
         return number_short(bytes, at, 4) as u32;
     }
-    (pair(bytes, at) as u32) * 65536 + (pair(bytes, at + 2) as u32)
+    four(bytes, at)
 }
 
 // The number of the six bytes from `at`.
@@ -74,8 +82,7 @@ pub fn number6(bytes: &[u8], at: usize) -> u64
     if left_at(bytes.len(), at) < 6 {
         return number_short(bytes, at, 6);
     }
-    ((pair(bytes, at) as u64) * 65536 + (pair(bytes, at + 2) as u64)) * 65536
-        + (pair(bytes, at + 4) as u64)
+    (four(bytes, at) as u64) * 65536 + (pair(bytes, at + 4) as u64)
 }
 
 // Copies a piece that fits.

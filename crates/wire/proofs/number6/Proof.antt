@@ -1,4 +1,4 @@
--- `wire::number6` gives `numberAt 6`: three pairs of bytes, by the law of a number in two parts.
+-- `wire::number6` gives `numberAt 6`: four bytes and two, by the law of a number in two parts.
 -- Trusts: nothing.
 use native.Mathlib.Omega.{arith}
 use borrow.Author.Needs.{needs}
@@ -10,8 +10,8 @@ use Rattle.wire.proofs.number6.Tie as tie
 -- the bytes are all there
 returns-2 : tie.Need-returns-2
 returns-2 c =
-    let a = c .before .before .before .before .before .before .args in
-    omega (arith, numberAt-add 2 2 (now (a .bytes)) (a .at), numberAt-add 4 2 (now (a .bytes)) (a .at))
+    let a = c .before .before .before .before .before .args in
+    omega (arith, numberAt-add 4 2 (now (a .bytes)) (a .at))
 
 pub number6-spec : {M : Type 1} → statement M
 number6-spec =
@@ -21,11 +21,6 @@ number6-spec =
     (λ c κs. search needs)
     (λ c. search needs)
     (λ c κs. search needs)
-    (λ c. search needs)
-    (λ c. search needs)
-    (λ c. search needs)
-    (λ c κs. search needs)
-    (λ c. search needs)
     (λ c. search needs)
     (λ c. search needs)
     (λ c. search needs)

@@ -9,13 +9,13 @@ use Rattle.wire.proofs.pair.Statement.{statement}
 use Rattle.wire.proofs.pair.Tie as tie
 
 cast-result : tie.Need-cast-result
-cast-result c = omega (arith, c .shared-slice-known .given (c .before .args .at))
+cast-result c = omega (arith, c .shared-slice-known .given (c .before .args .at), c .shared-slice-known .given (c .before .args .at + 1))
 
 mul-result : tie.Need-mul-result
-mul-result c = omega (arith, c .shared-slice-known .given (c .before .args .at))
+mul-result c = omega (arith, c .shared-slice-known .given (c .before .args .at), c .shared-slice-known .given (c .before .args .at + 1))
 
 cast-result-2 : tie.Need-cast-result-2
-cast-result-2 c = omega (arith, c .shared-slice-known2 .given (c .before .before .args .at + 1))
+cast-result-2 c = omega (arith, c .shared-slice-known2 .given (c .before .before .args .at), c .shared-slice-known2 .given (c .before .before .args .at + 1))
 
 add-result-2 : tie.Need-add-result-2
 add-result-2 c = omega (arith, c .shared-slice-known2 .given (c .before .before .args .at), c .shared-slice-known2 .given (c .before .before .args .at + 1))

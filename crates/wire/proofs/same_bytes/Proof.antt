@@ -25,7 +25,9 @@ abbrev μ-loop : tie.MeasureT-loop
 
 -- other lengths: false
 returns : tie.Need-returns Inv-loop μ-loop
-returns c = sym (sameBytes-length _ _ (c .if1 .taken))
+returns c =
+    let a = c .before .args in
+    sym (sameBytes-length (now (a .a)) (now (a .b)) (λ e. omega arith))
 
 loop-holds : tie.Need-loop-holds Inv-loop μ-loop
 unfolding sameBytes
