@@ -1,0 +1,4 @@
+pub mod Match
+pub mod Judge
+pub mod Entry
+pub mod Prepared
