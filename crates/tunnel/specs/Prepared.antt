@@ -1,7 +1,5 @@
 -- Prepared: a tunnel chosen once, and the verdict on a frame by it alone.
 --
---   placed cl cs             cl put into a list that is in matching order
---   namedInOrder t rule      the classifiers that a rule names, in matching order
 --   tunnelOf mode address es the tunnel with these entries; withEntry, with one more at a place
 --   preparedTunnel t c u     the tunnel of a client: the chosen rule's address and the classifiers that it names, in matching order
 --   entriesOf tu             the entries of any lent tunnel; a count above 32 is read as 32
@@ -10,49 +8,26 @@
 -- Mode 0: no rule fits. Mode 1: the rule names no classifier. Any other: by the entries. Unused places hold 0.
 -- That both ways give one verdict is `prepared-same` in proofs/Same.antt. Trusts: nothing.
 use Prim.Native.Nat.{ℕ, zero, suc, _+_, _-_}
-use mathlib.Core.Bool.{Bool, cond, not}
+use mathlib.Core.Bool.{cond, not}
 use mathlib.Core.List.{List, [], _∷_, _++_, map}
 use lib.ListN.{length, getD, set, replicate}
 use lib.Dec.{ltb, eqb}
 use Rattle.table.specs.declared.Client.{Client}
 use Rattle.table.specs.declared.Rule.{Rule}
-use Rattle.table.specs.declared.Classifier.{Classifier}
 use Rattle.table.specs.declared.Table.{Table}
-use Rattle.table.specs.Table.{limitedTo, classifiersOf}
+use Rattle.table.specs.Table.{limitedTo}
 use Rattle.choice.specs.declared.Ucid.{Ucid}
 use Rattle.choice.specs.declared.Choice.{Choice}
 use Rattle.choice.specs.declared.Choice.the-variants as choice
-use Rattle.choice.specs.Best.{comesBefore, firstPlace}
+use Rattle.choice.specs.Best.{firstPlace}
 use Rattle.choice.specs.Choose.{choiceOf, ruleAt}
 use Rattle.tunnel.specs.declared.Entry.{Entry}
 use Rattle.tunnel.specs.declared.Tunnel.{Tunnel}
 use Rattle.tunnel.specs.declared.Verdict.{Verdict}
 use Rattle.tunnel.specs.declared.Verdict.the-variants.{Refused, Other, Forward, Filtered}
 use Rattle.tunnel.specs.Entry.{entryOf, matchesEntry}
-use Rattle.tunnel.specs.Judge.{wrongLength, addressAt, namesNumber}
-
-unfoldable pub comesFirst : Classifier → Classifier → Bool
-comesFirst a b = comesBefore (a .priority) (a .number) (b .priority) (b .number)
-
--- which of two classifiers comes first, and the other; b and a where neither comes before the other
-unfoldable pub earlierOf : Classifier → Classifier → Classifier
-earlierOf a b = cond (comesFirst a b) a b
-
-unfoldable pub laterOf : Classifier → Classifier → Classifier
-laterOf a b = cond (comesFirst a b) b a
-
--- cl is put into a list that is in matching order: at each place the earlier of the two stays, the later moves on
-unfoldable pub placed : Classifier → List Classifier → List Classifier
-placed cl [] = cl ∷ []
-placed cl (d ∷ ds) = earlierOf cl d ∷ placed (laterOf cl d) ds
-
-unfoldable pub inOrder : (Classifier → Bool) → List Classifier → List Classifier → List Classifier
-inOrder named done [] = done
-inOrder named done (cl ∷ cs) = inOrder named (cond (named cl) (placed cl done) done) cs
-
--- the classifiers that a rule names, in matching order
-unfoldable pub namedInOrder : Table → Rule → List Classifier
-namedInOrder t rule = inOrder (λ cl. namesNumber rule (cl .number)) [] (classifiersOf t)
+use Rattle.tunnel.specs.Order.{namedInOrder}
+use Rattle.tunnel.specs.Judge.{wrongLength, addressAt}
 
 -- a list of numbers in an array of 32, unused places 0
 abbrev pub padded : List ℕ → List ℕ
