@@ -143,7 +143,7 @@ static void take_body(struct board *b, uint32_t clock, const uint8_t *body, size
         printf("here already\n");
         break;
     case DSG_RECEIVE_WAITING:
-        print_count("", (unsigned)r.number, "piece");
+        print_count("", (unsigned)r.empty, "piece");
         printf(" missing\n");
         break;
     case DSG_RECEIVE_ACCEPTED:

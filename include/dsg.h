@@ -188,7 +188,7 @@ struct dsg_modem dsg_empty_modem(void);
 enum dsg_collected_kind {
     DSG_COLLECT_REFUSED = 0,       /* number: 1 to 5 */
     DSG_COLLECT_REPEAT = 1,        /* this piece is held already: nothing changed */
-    DSG_COLLECT_WAITING = 2,       /* number: how many slots are empty */
+    DSG_COLLECT_WAITING = 2,       /* empty: how many slots are empty */
     DSG_COLLECT_COMPLETE_BODY = 3, /* the message is the part of the body at start, of length bytes */
     DSG_COLLECT_COMPLETE_JOIN = 4  /* the message is the part of the join buffer at start, of length bytes */
 };
@@ -196,6 +196,7 @@ enum dsg_collected_kind {
 struct dsg_collected {
     uint32_t kind;
     uint32_t number;
+    size_t empty;
     size_t start;
     size_t length;
 };
@@ -223,7 +224,7 @@ struct dsg_read_answer dsg_read(struct dsg_table *table, const uint8_t *message,
 enum dsg_received_kind {
     DSG_RECEIVE_REFUSED = 0,        /* the body was refused; number: 1 to 5 */
     DSG_RECEIVE_REPEAT = 1,         /* this piece is held already: nothing changed */
-    DSG_RECEIVE_WAITING = 2,        /* number: how many slots are empty */
+    DSG_RECEIVE_WAITING = 2,        /* empty: how many slots are empty */
     DSG_RECEIVE_ACCEPTED = 3,       /* the message is complete, and the table is its table */
     DSG_RECEIVE_MESSAGE_REFUSED = 4 /* the message is complete and was refused; number, offset: as dsg_read's */
 };
@@ -231,6 +232,7 @@ enum dsg_received_kind {
 struct dsg_received {
     uint32_t kind;
     uint32_t number;
+    size_t empty;
     size_t offset;
 };
 
@@ -410,20 +412,22 @@ DSG_AT(dsg_modem, permission, 25);
 DSG_AT(dsg_modem, hasucid, 26);
 DSG_AT(dsg_modem, ucid, 27);
 
-DSG_SIZE(dsg_collected, 24);
+DSG_SIZE(dsg_collected, 32);
 DSG_AT(dsg_collected, kind, 0);
 DSG_AT(dsg_collected, number, 4);
-DSG_AT(dsg_collected, start, 8);
-DSG_AT(dsg_collected, length, 16);
+DSG_AT(dsg_collected, empty, 8);
+DSG_AT(dsg_collected, start, 16);
+DSG_AT(dsg_collected, length, 24);
 
 DSG_SIZE(dsg_read_answer, 16);
 DSG_AT(dsg_read_answer, number, 0);
 DSG_AT(dsg_read_answer, offset, 8);
 
-DSG_SIZE(dsg_received, 16);
+DSG_SIZE(dsg_received, 24);
 DSG_AT(dsg_received, kind, 0);
 DSG_AT(dsg_received, number, 4);
-DSG_AT(dsg_received, offset, 8);
+DSG_AT(dsg_received, empty, 8);
+DSG_AT(dsg_received, offset, 16);
 
 DSG_SIZE(dsg_choice, 8);
 DSG_AT(dsg_choice, number, 0);

@@ -1,0 +1,17 @@
+-- `modem::rows::start` gives `startRow`: the idle record in Scanning, with the clock and the permission.
+-- Trusts: nothing.
+use borrow.Author.Needs.{needs}
+use Rattle.modem.specs.Events.{startRow}
+use Rattle.modem.proofs.rows.start.Statement.{statement}
+use Rattle.modem.proofs.rows.start.Tie as tie
+
+pub start-spec : {M : Type 1} → statement M
+unfolding startRow
+start-spec =
+    tie.close
+    (tie.spec
+    (λ c κs. search needs)
+    -- permitted
+    (λ c. rw (c .before .empty-modem .ensures, c .if1 .taken))
+    -- not permitted
+    (λ c. rw (c .before .empty-modem .ensures, c .if1 .left)))

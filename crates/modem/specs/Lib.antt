@@ -1,0 +1,4 @@
+pub mod Record
+pub mod Events
+pub mod Step
+pub mod Numbers
