@@ -80,12 +80,7 @@ fn complete_from(length: usize, number: u8) -> Collected
 }
 
 // One body for a record by value.
-fn collect_value(
-    held: Collection,
-    slots: &mut [u8],
-    join: &mut [u8],
-    body: &[u8],
-) -> CollectStepped
+fn collect_value(held: Collection, slots: &mut [u8], join: &mut [u8], body: &[u8]) -> CollectStepped
     ensures { λ r. ⌜ record { answer = r .answer; held = r .held; slots = now (slots .exit); join = now (join .exit) } ≡ collectAfter held (now (slots .entry)) (now (join .entry)) (now (body .entry)) ⌝ }
 {
     let outcome = collector::collect(held, slots, join, body);

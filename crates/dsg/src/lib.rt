@@ -8,3 +8,5 @@
 // leaves what was lent as it was. What is behind a reference is copied whole, one function by value is
 // called, and its record is stored whole.
 mod bodies;
+mod events;
+mod tables;

@@ -1,0 +1,17 @@
+-- Events: what a host has after `dsg_event` (include/dsg.h).
+--
+--   eventStepped m clock event a b c d   the number of the answer, 0 or 18, and the record after the event of that number
+--
+-- Which event a number names, and what becomes of any other, is `eventOf` of crate modem. Trusts: nothing.
+use Prim.Native.Nat.{ℕ}
+use Rattle.modem.specs.declared.Modem.{Modem}
+use Rattle.modem.specs.declared.Stepped.{Stepped}
+use Rattle.modem.specs.Numbers.{eventOf}
+use Rattle.modem.specs.Step.{steppedModem, answerNumber}
+use Rattle.dsg.specs.declared.events.EventStepped.{EventStepped}
+
+abbrev pub steppedAs : Stepped → EventStepped
+steppedAs s = record { number = answerNumber (s .answer); modem = s .modem }
+
+abbrev pub eventStepped : Modem → ℕ → ℕ → ℕ → ℕ → ℕ → ℕ → EventStepped
+eventStepped m clock event a b c d = steppedAs (steppedModem m clock (eventOf event a b c d))
