@@ -79,7 +79,7 @@ enum dsg_refusal {
 
 /* The kinds of a client. */
 enum dsg_client_kind {
-    DSG_CLIENT_BROADCAST_ALL = 0, /* broadcast of length 0; its value is not looked at */
+    DSG_CLIENT_BROADCAST_ALL = 0, /* broadcast of length 0; its value is 0 */
     DSG_CLIENT_BROADCAST = 1,     /* broadcast of a value */
     DSG_CLIENT_MAC = 2,           /* well-known MAC: six bytes as one big-endian number */
     DSG_CLIENT_CA_SYSTEM = 3,
@@ -250,7 +250,7 @@ struct dsg_received dsg_receive(struct dsg_collection *held, struct dsg_table *t
 
 struct dsg_choice {
     uint32_t number; /* 0: chosen; else the refusal, 17 */
-    uint32_t place;  /* of the rule in the table, from 0 */
+    size_t place;    /* of the rule in the table, from 0 */
 };
 
 /* Chooses the rule for a client. Lent: the table. Nothing is written.
@@ -429,9 +429,9 @@ DSG_AT(dsg_received, number, 4);
 DSG_AT(dsg_received, empty, 8);
 DSG_AT(dsg_received, offset, 16);
 
-DSG_SIZE(dsg_choice, 8);
+DSG_SIZE(dsg_choice, 16);
 DSG_AT(dsg_choice, number, 0);
-DSG_AT(dsg_choice, place, 4);
+DSG_AT(dsg_choice, place, 8);
 
 DSG_SIZE(dsg_verdict, 24);
 DSG_AT(dsg_verdict, kind, 0);

@@ -9,4 +9,5 @@
 // called, and its record is stored whole.
 mod bodies;
 mod events;
+mod frames;
 mod tables;
