@@ -1,38 +1,17 @@
 -- Events: the table of document 01, "Modem record", row by row, and what each event does.
 --
---   moved m state ucid receive retry   the record in that state, with that UCID and those two timers
---   allowed m p, valued m a b c d      its permission set; its timer values set, with the defaults for a Tdsg1 or Tdsg2 of 0
 --   ..Row m other          one row of the table: where its state and condition fit, what it says; else `other`
 --   eventOn ev m           an event: the rows that name it, and the two sentences on Enable and Disable below the table
 --
 -- Rows act on a record whose clock and timers have moved already (specs/Step.antt). A pair that no row names gives m itself.
 -- Tested by: random records and events against the other program in host/. Trusts: nothing.
 use Prim.Native.Nat.{ℕ}
-use mathlib.Core.Bool.{Bool, true, false, cond, _&&_}
-use lib.Dec.{ltb, eqb}
+use mathlib.Core.Bool.{Bool, cond, _&&_}
 use Rattle.modem.specs.declared.Modem.{Modem}
 use Rattle.modem.specs.declared.Event.{Event}
 use Rattle.modem.specs.declared.Event.the-variants.{Start, Locked, ScanEmpty, TableAccepted, Packet, Tick, Enable, UpstreamUp, UpstreamLost, Disable, Hunt, DownstreamLost, Unnamed}
-use Rattle.modem.specs.Record.{idle, scanning, checking, oneWay, ranging, twoWay, resting, isAt, isForwarding, isSending, isFour, isPermitted, Marked, off, loaded, none, known, receiveOf, retryOf, ucidOf, isOn}
-
-abbrev pub moved : Modem → ℕ → Marked → Marked → Marked → Modem
-moved m state ucid receive retry =
-    record { last = m .last; receive = receive .value; retry = retry .value; tdsg1 = m .tdsg1; tdsg2 = m .tdsg2; tdsg3 = m .tdsg3; tdsg4 = m .tdsg4; receiveon = receive .mark; retryon = retry .mark; state = state; permission = m .permission; hasucid = ucid .mark; ucid = ucid .value }
-
-abbrev pub allowed : Modem → ℕ → Modem
-allowed m p =
-    record { last = m .last; receive = m .receive; retry = m .retry; tdsg1 = m .tdsg1; tdsg2 = m .tdsg2; tdsg3 = m .tdsg3; tdsg4 = m .tdsg4; receiveon = m .receiveon; retryon = m .retryon; state = m .state; permission = p; hasucid = m .hasucid; ucid = m .ucid }
-
-abbrev pub defaulted : ℕ → ℕ → ℕ
-defaulted value default = cond (eqb value 0) default value
-
-abbrev pub valued : Modem → ℕ → ℕ → ℕ → ℕ → Modem
-valued m a b c d =
-    record { last = m .last; receive = m .receive; retry = m .retry; tdsg1 = defaulted a 2; tdsg2 = defaulted b 600; tdsg3 = c; tdsg4 = d; receiveon = m .receiveon; retryon = m .retryon; state = m .state; permission = m .permission; hasucid = m .hasucid; ucid = m .ucid }
-
--- a timer that runs and shows 0
-abbrev pub isAtZero : Marked → Bool
-isAtZero t = isOn t && eqb (t .value) 0
+use Rattle.modem.specs.States.{scanning, checking, oneWay, ranging, twoWay, resting, isAt, isForwarding, isSending, isFour, isPermitted, off, loaded, none, known, receiveOf, retryOf, ucidOf, isAtZero}
+use Rattle.modem.specs.Record.{moved, allowed, valued}
 
 -- any | Start (carries the permission) | Scanning; clock set untested; permission set; default timer values; timers off, no UCID
 unfoldable pub startRow : Bool → ℕ → Modem

@@ -1,3 +1,4 @@
+pub mod States
 pub mod Record
 pub mod Events
 pub mod Step

@@ -33,7 +33,7 @@ abbrev pub aged : Modem → ℕ → Modem
 aged m now =
     record { last = now; receive = fallen (m .receiveon) (m .receive) (clockStep now (m .last)); retry = fallen (m .retryon) (m .retry) (clockStep now (m .last)); tdsg1 = m .tdsg1; tdsg2 = m .tdsg2; tdsg3 = m .tdsg3; tdsg4 = m .tdsg4; receiveon = m .receiveon; retryon = m .retryon; state = m .state; permission = m .permission; hasucid = m .hasucid; ucid = m .ucid }
 
-abbrev pub isStart : Event → Bool
+unfoldable pub isStart : Event → Bool
 isStart (Start p) = true
 isStart Locked = false
 isStart ScanEmpty = false

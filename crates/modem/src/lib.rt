@@ -1,14 +1,14 @@
 // The modem record and its events (document 01, "Modem record").
 //
 // `step_modem` takes a record by value and gives the answer and the next record; `on_event` is the same on a record
-// that the host lends. `transmits` and `forwards` say what a host asks of a record, `empty_modem` is an idle one to
-// begin with, `event_from` and `answer_number` are the numbers by which events and answers cross to C. All take any
+// that the host lends; `step_numbered` takes the event by its number, as C names it, and is the one that does the work.
+// `transmits` and `forwards` say what a host asks of a record, `empty_modem` is an idle one to begin with. All take any
 // input. One refusal, 18, leaves the record as it was; a record that breaks the rules counts as Idle, so every event
 // but Start leaves it, too, as it was.
 ghost use mathlib.Core.Path.{_≡_};
 ghost use Rattle.modem.specs.Record.{transmits, forwards, emptyModem};
-ghost use Rattle.modem.specs.Numbers.{startOf, upOf, eventOf};
-ghost use Rattle.modem.specs.Step.{isStart, steppedModem, answerNumber};
+ghost use Rattle.modem.specs.Numbers.{eventOf, numberedStep};
+ghost use Rattle.modem.specs.Step.{answerOf, steppedModem};
 
 mod record;
 mod rows;
@@ -91,6 +91,13 @@ pub struct Stepped {
     pub modem: Modem,
 }
 
+// The same with the answer as this paper's number, 0 for Done.
+#[repr(C)]
+pub struct Numbered {
+    pub answer: u8,
+    pub modem: Modem,
+}
+
 // An idle record, with the default timer values.
 pub fn empty_modem() -> Modem
     ensures { λ r. ⌜ r ≡ emptyModem ⌝ }
@@ -126,48 +133,116 @@ pub fn forwards(modem: Modem) -> bool
     !record::counts_idle(modem) & record::is_forwarding(modem)
 }
 
-// Whether an event is a Start.
-fn is_start(event: Event) -> bool
-    ensures { λ r. ⌜ r ≡ isStart event ⌝ }
+// One event, by its number (specs/Numbers.antt) and what it carries. In Idle, and where the record counts as Idle, only
+// Start is taken; a clock that went back is refused; else the clock and the timers move, and then the event acts.
+pub fn step_numbered(modem: Modem, clock: u32, kind: u8, a: u16, b: u16, c: u16, d: u16) -> Numbered
+    ensures { λ r. ⌜ r ≡ numberedStep modem clock kind a b c d ⌝ }
 {
-    match event {
-        Event::Start(_) => true,
-        Event::Locked => false,
-        Event::ScanEmpty => false,
-        Event::TableAccepted(_, _, _, _) => false,
-        Event::Packet => false,
-        Event::Tick => false,
-        Event::Enable => false,
-        Event::UpstreamUp(_) => false,
-        Event::UpstreamLost => false,
-        Event::Disable => false,
-        Event::Hunt => false,
-        Event::DownstreamLost => false,
-        Event::Unnamed => false,
+    if (kind == 1) & (a < 2) {
+        let next = rows::start(clock, a == 1);
+        return Numbered {
+            answer: 0,
+            modem: next,
+        };
+    }
+    if record::counts_idle(modem) {
+        return Numbered { answer: 0, modem };
+    }
+    if record::is_back(clock, modem.last) {
+        return Numbered { answer: 18, modem };
+    }
+    let next = rows::act(record::age(modem, clock), kind, a, b, c, d);
+    Numbered {
+        answer: 0,
+        modem: next,
     }
 }
 
-// One event. In Idle, and where the record counts as Idle, only Start is taken; a clock that went back is refused;
-// else the clock and the running timers move, and then the event acts.
+// The number of an event and what it carries.
+struct Carried {
+    kind: u8,
+    a: u16,
+    b: u16,
+    c: u16,
+    d: u16,
+}
+
+// An event without arguments.
+fn bare(kind: u8) -> Carried
+    ensures { λ r. ⌜ r ≡ record { kind = kind; a = 0; b = 0; c = 0; d = 0 } ⌝ }
+{
+    Carried {
+        kind,
+        a: 0,
+        b: 0,
+        c: 0,
+        d: 0,
+    }
+}
+
+// The numbers that name an event.
+fn numbers_of(event: Event) -> Carried
+    ensures { λ r. ⌜ eventOf (r .kind) (r .a) (r .b) (r .c) (r .d) ≡ event ⌝ }
+{
+    match event {
+        Event::Start(permitted) => {
+            let a = record::wide_mark(permitted);
+            Carried {
+                kind: 1,
+                a,
+                b: 0,
+                c: 0,
+                d: 0,
+            }
+        }
+        Event::Locked => bare(2),
+        Event::ScanEmpty => bare(3),
+        Event::TableAccepted(a, b, c, d) => Carried {
+            kind: 4,
+            a,
+            b,
+            c,
+            d,
+        },
+        Event::Packet => bare(5),
+        Event::Tick => bare(6),
+        Event::Enable => bare(7),
+        Event::UpstreamUp(ucid) => Carried {
+            kind: 8,
+            a: ucid as u16,
+            b: 0,
+            c: 0,
+            d: 0,
+        },
+        Event::UpstreamLost => bare(9),
+        Event::Disable => bare(10),
+        Event::Hunt => bare(11),
+        Event::DownstreamLost => bare(12),
+        Event::Unnamed => bare(0),
+    }
+}
+
+// The answer of a number.
+fn answer_from(number: u8) -> Answer
+    ensures { λ r. ⌜ r ≡ answerOf number ⌝ }
+{
+    if number == 18 {
+        Answer::ClockBack
+    } else {
+        Answer::Done
+    }
+}
+
+// One event.
 pub fn step_modem(modem: Modem, clock: u32, event: Event) -> Stepped
     ensures { λ r. ⌜ r ≡ steppedModem modem clock event ⌝ }
 {
-    let start = is_start(event);
-    if !start & record::counts_idle(modem) {
-        return Stepped {
-            answer: Answer::Done,
-            modem,
-        };
-    }
-    if !start & record::is_back(clock, modem.last) {
-        return Stepped {
-            answer: Answer::ClockBack,
-            modem,
-        };
-    }
-    let next = rows::act(record::age(modem, clock), event);
+    let n = numbers_of(event);
+    let s = step_numbered(modem, clock, n.kind, n.a, n.b, n.c, n.d);
+    let answer = answer_from(s.answer);
+    let next = s.modem;
     Stepped {
-        answer: Answer::Done,
+        answer,
         modem: next,
     }
 }
@@ -180,58 +255,4 @@ pub fn on_event(modem: &mut Modem, clock: u32, event: Event) -> Answer
     let s = step_modem(*modem, clock, event);
     *modem = s.modem;
     s.answer
-}
-
-// This paper's number of an answer: 0 for Done.
-pub fn answer_number(answer: Answer) -> u8
-    ensures { λ r. ⌜ r ≡ answerNumber answer ⌝ }
-{
-    match answer {
-        Answer::Done => 0,
-        Answer::ClockBack => 18,
-    }
-}
-
-// A Start whose permission is given as a number: 0 or 1, else no event of the table.
-fn start_from(a: u16) -> Event
-    ensures { λ r. ⌜ r ≡ startOf a ⌝ }
-{
-    match a {
-        0 => Event::Start(false),
-        1 => Event::Start(true),
-        _ => Event::Unnamed,
-    }
-}
-
-// An Upstream up whose UCID is given as a number: a byte, else no event of the table.
-fn up_from(a: u16) -> Event
-    ensures { λ r. ⌜ r ≡ upOf a ⌝ }
-{
-    if a < 256 {
-        Event::UpstreamUp(a as u8)
-    } else {
-        Event::Unnamed
-    }
-}
-
-// The event of a number, 1 to 12 in the order of the table, with what it carries: `a` a permission or a UCID, `a` to
-// `d` four timer values. A number or an argument that names none gives `Unnamed`.
-pub fn event_from(kind: u8, a: u16, b: u16, c: u16, d: u16) -> Event
-    ensures { λ r. ⌜ r ≡ eventOf kind a b c d ⌝ }
-{
-    match kind {
-        1 => start_from(a),
-        2 => Event::Locked,
-        3 => Event::ScanEmpty,
-        4 => Event::TableAccepted(a, b, c, d),
-        5 => Event::Packet,
-        6 => Event::Tick,
-        7 => Event::Enable,
-        8 => up_from(a),
-        9 => Event::UpstreamLost,
-        10 => Event::Disable,
-        11 => Event::Hunt,
-        12 => Event::DownstreamLost,
-        _ => Event::Unnamed,
-    }
 }

@@ -3,8 +3,9 @@
 // `counts_idle` is the test that every event but Start meets first; `age` moves the clock and the timers. Nothing here
 // moves a modem to another state.
 ghost use mathlib.Core.Path.{_≡_};
-ghost use Prim.Native.Nat.{_*_};
-ghost use Rattle.modem.specs.Record.{isSending, isForwarding, isBroken, countsIdle};
+ghost use mathlib.Core.Bool.{cond};
+ghost use Rattle.modem.specs.States.{isSending, isForwarding};
+ghost use Rattle.modem.specs.Record.{receiveMark, isSpoilt, countsIdle};
 ghost use Rattle.modem.specs.Step.{clockStep, isBack, fallen, aged};
 use crate::Modem;
 
@@ -24,40 +25,71 @@ pub(crate) fn is_forwarding(m: Modem) -> bool
     (s == crate::ONE_WAY) | (s == crate::RANGING) | (s == crate::TWO_WAY)
 }
 
-// Whether a record breaks the rules, in the order of the definition.
-pub(crate) fn is_broken(m: Modem) -> bool
-    ensures { λ r. ⌜ r ≡ isBroken m ⌝ }
+// A mark for a fact, in the two widths of the record.
+pub(crate) fn mark(fact: bool) -> u8
+    ensures { λ r. ⌜ r ≡ cond fact 1 0 ⌝ }
 {
-    let s = m.state;
-    let forwarding = (s == crate::ONE_WAY) | (s == crate::RANGING) | (s == crate::TWO_WAY);
-    let sending = (s == crate::RANGING) | (s == crate::TWO_WAY);
-    let receiving = m.receiveon != 0;
-    let retrying = m.retryon != 0;
-    let known = m.hasucid != 0;
-    let permitted = m.permission == 1;
-    (crate::RESTING < s)
-        | (1 < m.permission)
-        | (1 < m.receiveon)
-        | (1 < m.retryon)
-        | (1 < m.hasucid)
-        | (!receiving & ((s == crate::CHECKING) | (s == crate::RESTING) | forwarding))
-        | (receiving & (s == crate::SCANNING))
-        | (retrying & (s != crate::ONE_WAY))
-        | (retrying & !permitted)
-        | (known & (s != crate::TWO_WAY))
-        | (!known & (s == crate::TWO_WAY))
-        | (sending & !permitted)
-        | (m.tdsg1 == 0)
-        | (m.tdsg2 == 0)
-        | (receiving & (65535000 < m.receive))
-        | (retrying & (65535000 < m.retry))
+    if fact { 1 } else { 0 }
 }
 
-// Whether a record is Idle, or counts as it.
+pub(crate) fn wide_mark(fact: bool) -> u16
+    ensures { λ r. ⌜ r ≡ cond fact 1 0 ⌝ }
+{
+    if fact { 1 } else { 0 }
+}
+
+// The mark that is due for the receive timer.
+fn receive_mark(m: Modem) -> u16
+    ensures { λ r. ⌜ r ≡ receiveMark m ⌝ }
+{
+    if (m.state == crate::IDLE) | (m.state == crate::SCANNING) {
+        0
+    } else {
+        1
+    }
+}
+
+// Whether a timer value that must not be 0 is 0, or a timer that runs shows more than it can be loaded with.
+fn is_spoilt(m: Modem) -> bool
+    ensures { λ r. ⌜ r ≡ isSpoilt m ⌝ }
+{
+    (m.tdsg1 == 0)
+        | (m.tdsg2 == 0)
+        | ((m.receiveon != 0) & (65535000 < m.receive))
+        | ((m.retryon != 0) & (65535000 < m.retry))
+}
+
+// Whether a record is Idle or breaks a rule: one test after the other, so that each costs a compare and a jump.
 pub(crate) fn counts_idle(m: Modem) -> bool
     ensures { λ r. ⌜ r ≡ countsIdle m ⌝ }
 {
-    (m.state == crate::IDLE) | is_broken(m)
+    let s = m.state;
+    if s == crate::IDLE {
+        return true;
+    }
+    if crate::RESTING < s {
+        return true;
+    }
+    if 1 < m.permission {
+        return true;
+    }
+    let due = receive_mark(m);
+    if m.receiveon != due {
+        return true;
+    }
+    let most = wide_mark((s == crate::ONE_WAY) & (m.permission == 1));
+    if most < m.retryon {
+        return true;
+    }
+    let known = mark(s == crate::TWO_WAY);
+    if m.hasucid != known {
+        return true;
+    }
+    let least = mark(is_sending(m));
+    if m.permission < least {
+        return true;
+    }
+    is_spoilt(m)
 }
 
 // The step of the clock since `last`, over its top.
@@ -89,9 +121,21 @@ pub(crate) fn age(m: Modem, clock: u32) -> Modem
     ensures { λ r. ⌜ r ≡ aged m clock ⌝ }
 {
     let by = elapsed(clock, m.last);
-    let mut n = m;
-    n.last = clock;
-    n.receive = fall(m.receiveon, m.receive, by);
-    n.retry = fall(m.retryon, m.retry, by);
-    n
+    let receive = fall(m.receiveon, m.receive, by);
+    let retry = fall(m.retryon, m.retry, by);
+    Modem {
+        last: clock,
+        receive,
+        retry,
+        tdsg1: m.tdsg1,
+        tdsg2: m.tdsg2,
+        tdsg3: m.tdsg3,
+        tdsg4: m.tdsg4,
+        receiveon: m.receiveon,
+        retryon: m.retryon,
+        state: m.state,
+        permission: m.permission,
+        hasucid: m.hasucid,
+        ucid: m.ucid,
+    }
 }

@@ -1,5 +1,6 @@
--- `modem::on_event` meets its contract: a walk of its MIR, written by gen_entry.py. The borrow is opened, the record is copied whole, `step_modem` is called, of which the proof knows only that it meets its contract, the record of its result is stored whole, and the borrow is closed at it.
--- Assumes nothing.
+-- `modem::on_event` gives what `step_modem` gives: a walk of its code. The borrow is opened and the record copied whole; `step_modem` is called, of which the
+-- proof knows only that it meets its contract; the record of its result is stored whole, and the borrow is closed at it.
+-- Trusts: nothing.
 use mathlib.Core.Path.{_≡_, refl, ap}
 use mathlib.Core.Bool.{Bool}
 use Prim.Native.Nat.{ℕ, _<_, _^_}

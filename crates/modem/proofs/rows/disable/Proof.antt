@@ -11,7 +11,10 @@ disable-spec =
     tie.close
     (tie.spec
     (λ c κs. search needs)
+    (λ c κs. search needs)
+    (λ c κs. search needs)
     -- in Ranging or TwoWay
-    (λ c. rw (← c .before .is-sending .ensures, c .if1 .taken))
+    (λ c. rw (c .go .ensures, c .before .before .before .allow .ensures, ← c .before .before .is-sending .ensures, c .before .if1 .taken))
+    (λ c κs. search needs)
     -- elsewhere
-    (λ c. rw (← c .before .is-sending .ensures, c .if1 .left)))
+    (λ c. rw (c .go2 .ensures, c .before .before .before .allow .ensures, ← c .before .before .is-sending .ensures, c .before .if1 .left)))

@@ -12,7 +12,9 @@ hear-spec =
     (tie.spec
     (λ c κs. search needs)
     (λ c κs. search needs)
+    (λ c κs. search needs)
     -- in a forwarding state
-    (λ c. rw (c .milliseconds .ensures, ← c .before .before .is-forwarding .ensures, c .before .if1 .taken))
+    (λ c. rw (c .go .ensures, c .before .milliseconds .ensures, ← c .before .before .before .is-forwarding .ensures, c .before .before .if1 .taken))
+    (λ c κs. search needs)
     -- elsewhere
-    (λ c. rw (← c .before .is-forwarding .ensures, c .if1 .left)))
+    (λ c. rw (c .keep .ensures, ← c .before .before .is-forwarding .ensures, c .before .if1 .left)))

@@ -11,7 +11,9 @@ hunt-spec =
     tie.close
     (tie.spec
     (λ c κs. search needs)
+    (λ c κs. search needs)
     -- in one of the four
-    (λ c. rw (← c .before .is-four .ensures, c .if1 .taken))
+    (λ c. rw (c .go .ensures, ← c .before .before .is-four .ensures, c .before .if1 .taken))
+    (λ c κs. search needs)
     -- elsewhere
-    (λ c. rw (← c .before .is-four .ensures, c .if1 .left)))
+    (λ c. rw (c .keep .ensures, ← c .before .before .is-four .ensures, c .before .if1 .left)))

@@ -12,7 +12,9 @@ lose-spec =
     (tie.spec
     (λ c κs. search needs)
     (λ c κs. search needs)
+    (λ c κs. search needs)
     -- in Ranging or TwoWay
-    (λ c. rw (c .milliseconds .ensures, ← c .before .before .is-sending .ensures, c .before .if1 .taken))
+    (λ c. rw (c .go .ensures, c .before .milliseconds .ensures, ← c .before .before .before .is-sending .ensures, c .before .before .if1 .taken))
+    (λ c κs. search needs)
     -- elsewhere
-    (λ c. rw (← c .before .is-sending .ensures, c .if1 .left)))
+    (λ c. rw (c .keep .ensures, ← c .before .before .is-sending .ensures, c .before .if1 .left)))

@@ -1,4 +1,4 @@
--- `modem::rows::start` gives `startRow`: the idle record in Scanning, with the clock and the permission.
+-- `modem::rows::start` gives `startRow`.
 -- Trusts: nothing.
 use borrow.Author.Needs.{needs}
 use Rattle.modem.specs.Events.{startRow}
@@ -11,7 +11,4 @@ start-spec =
     tie.close
     (tie.spec
     (λ c κs. search needs)
-    -- permitted
-    (λ c. rw (c .before .empty-modem .ensures, c .if1 .taken))
-    -- not permitted
-    (λ c. rw (c .before .empty-modem .ensures, c .if1 .left)))
+    (λ c. rw (c .mark .ensures)))
