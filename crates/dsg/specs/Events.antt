@@ -5,13 +5,12 @@
 -- Which event a number names, and what becomes of any other, is `eventOf` of crate modem. Trusts: nothing.
 use Prim.Native.Nat.{ℕ}
 use Rattle.modem.specs.declared.Modem.{Modem}
-use Rattle.modem.specs.declared.Stepped.{Stepped}
-use Rattle.modem.specs.Numbers.{eventOf}
-use Rattle.modem.specs.Step.{steppedModem, answerNumber}
+use Rattle.modem.specs.declared.Numbered.{Numbered}
+use Rattle.modem.specs.Numbers.{numberedStep}
 use Rattle.dsg.specs.declared.events.EventStepped.{EventStepped}
 
-abbrev pub steppedAs : Stepped → EventStepped
-steppedAs s = record { number = answerNumber (s .answer); modem = s .modem }
+abbrev pub steppedAs : Numbered → EventStepped
+steppedAs s = record { number = s .answer; modem = s .modem }
 
 abbrev pub eventStepped : Modem → ℕ → ℕ → ℕ → ℕ → ℕ → ℕ → EventStepped
-eventStepped m clock event a b c d = steppedAs (steppedModem m clock (eventOf event a b c d))
+eventStepped m clock event a b c d = steppedAs (numberedStep m clock event a b c d)

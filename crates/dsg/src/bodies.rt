@@ -48,7 +48,7 @@ fn collected_from(answer: Answer, number: u8) -> Collected
         Answer::Waiting(k) => Collected {
             kind: 2,
             number: 0,
-            empty: k,
+            empty: k as usize,
             start: 0,
             length: 0,
         },

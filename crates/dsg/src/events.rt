@@ -17,12 +17,10 @@ struct EventStepped {
 fn event_value(modem: Modem, clock: u32, event: u8, a: u16, b: u16, c: u16, d: u16) -> EventStepped
     ensures { λ r. ⌜ r ≡ eventStepped modem clock event a b c d ⌝ }
 {
-    let named = modem::event_from(event, a, b, c, d);
-    let stepped = modem::step_modem(modem, clock, named);
-    let answer = stepped.answer;
+    let stepped = modem::step_numbered(modem, clock, event, a, b, c, d);
     let next = stepped.modem;
     EventStepped {
-        number: modem::answer_number(answer) as u32,
+        number: stepped.answer as u32,
         modem: next,
     }
 }

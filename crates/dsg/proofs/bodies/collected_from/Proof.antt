@@ -20,5 +20,5 @@ returns-4 c = rw (c .complete-from .ensures, c .before .before .answer3 .given .
 pub collected-from-spec : {M : Type 1} → statement M
 collected-from-spec =
     tie.close (tie.spec
-    (λ c. search needs) (λ c. search needs) (λ c. search needs) (λ c. search needs) (λ c. search needs) (λ c κs. search needs)
+    (λ c. search needs) (λ c. search needs) (λ c. search needs) (λ c. search needs) (λ c. search needs) (λ c. search needs) (λ c κs. search needs)
     returns returns-2 returns-3 returns-4)
