@@ -147,7 +147,19 @@ struct dsg_collection {
     uint16_t lengths[16];
 };
 
-/* @TUNNEL@ */
+/* What dsg_prepare gives. A host may copy and keep it; what its fields mean is the library's. */
+struct dsg_tunnel {
+    uint64_t address;
+    uint8_t mode; /* 0: no rule fits; 1: the rule names no classifier; else by the entries */
+    uint8_t count;
+    uint32_t destinations[32];
+    uint32_t sources[32];
+    uint32_t masks[32];
+    uint16_t starts[32];
+    uint16_t ends[32];
+    uint16_t numbers[32];
+    uint8_t ports[32];
+};
 
 /* The states of a modem. Any other number breaks a record, which then counts as Idle. */
 enum dsg_state {
@@ -206,7 +218,7 @@ struct dsg_collected {
  * Written: the record; of the slots, the bytes of the piece; of the join buffer, the bytes of a message that came in
  *   more pieces than one, at its start. Pass the same record and the same buffers, untouched, each time.
  * Refused (kind 0): nothing is written.
- * Definition: collector/specs/Step collectStep; dsg/specs/Bodies collectAnswer. */
+ * Definition: collector/specs/Step collectStep; dsg/specs/Bodies collectedOf. */
 struct dsg_collected dsg_collect(struct dsg_collection *held, uint8_t *slots, size_t slots_length, uint8_t *join,
                                  size_t join_length, const uint8_t *body, size_t body_length);
 
@@ -254,7 +266,7 @@ struct dsg_choice {
 };
 
 /* Chooses the rule for a client. Lent: the table. Nothing is written.
- * Definition: tunnel/specs; dsg/specs/Frames chooseAnswer. */
+ * Definition: choice/specs/Choose choiceOf; dsg/specs/Frames choiceAs. */
 struct dsg_choice dsg_choose(const struct dsg_table *table, uint8_t kind, uint64_t value, uint8_t ucid_known,
                              uint8_t ucid);
 
@@ -273,18 +285,18 @@ struct dsg_verdict {
 };
 
 /* Judges a frame for a client. Lent: the table, the frame. Nothing is written.
- * Definition: tunnel/specs; dsg/specs/Frames judgeAnswer. */
+ * Definition: tunnel/specs/Judge verdictOf; dsg/specs/Frames verdictAs. */
 struct dsg_verdict dsg_judge(const struct dsg_table *table, uint8_t kind, uint64_t value, uint8_t ucid_known,
                              uint8_t ucid, const uint8_t *frame, size_t length);
 
 /* The rule for a client and its classifiers, taken out of the table once, to judge many frames with. Anew after each
  * accepted table and wherever the UCID changes. Lent: the table. Nothing is written.
- * Definition: tunnel/specs. */
+ * Definition: tunnel/specs/Prepared preparedTunnel. */
 struct dsg_tunnel dsg_prepare(const struct dsg_table *table, uint8_t kind, uint64_t value, uint8_t ucid_known,
                               uint8_t ucid);
 
 /* Judges a frame with what dsg_prepare gave: the verdict is that of dsg_judge with the same table, client and UCID.
- * Lent: the tunnel, the frame. Nothing is written. Definition: tunnel/specs; dsg/specs/Frames judgeAnswer. */
+ * Lent: the tunnel, the frame. Nothing is written. Definition: tunnel/specs/Prepared preparedVerdict; dsg/specs/Frames verdictAs. */
 struct dsg_verdict dsg_judge_prepared(const struct dsg_tunnel *tunnel, const uint8_t *frame, size_t length);
 
 /* ---- the modem ---------------------------------------------------------------------------------------------- */
@@ -308,7 +320,7 @@ enum dsg_event_kind {
 
 /* One event at a clock in milliseconds, which runs over its top. Returns 0, or 18 where the clock went back.
  * Lent: the modem. Written: the modem. Refused (18): nothing is written.
- * Definition: modem/specs/Step steppedModem, modem/specs/Numbers eventOf; dsg/specs/Events eventStepped. */
+ * Definition: modem/specs/Numbers numberedStep; dsg/specs/Events eventStepped. */
 uint32_t dsg_event(struct dsg_modem *modem, uint32_t clock, uint8_t event, uint16_t a, uint16_t b, uint16_t c,
                    uint16_t d);
 
@@ -326,11 +338,11 @@ struct dsg_listed {
 
 /* The text of a table that came under a change count: the lines that dcdlist writes.
  * Lent: the table, a buffer of DSG_LISTING_BYTES or more. Written: the text, at the buffer's start; no byte behind it.
- * Refused (number not 0): nothing is written. Definition: listing/specs/Text tableText; dsg/specs/Listings listAnswer. */
+ * Refused (number not 0): nothing is written. Definition: listing/specs/Text tableText; dsg/specs/Tables listedAs. */
 struct dsg_listed dsg_list_table(const struct dsg_table *table, uint8_t count, uint8_t *out, size_t out_length);
 
 /* What dcdlist writes for one body, taken with nothing collected: a table, a refusal, or how many pieces it waits for.
- * Lent, written, refused: as dsg_list_table. Definition: listing/specs; dsg/specs/Listings listAnswer. */
+ * Lent, written, refused: as dsg_list_table. Definition: listing/specs; dsg/specs/Tables listedAs. */
 struct dsg_listed dsg_list_body(const uint8_t *body, size_t body_length, uint8_t *out, size_t out_length);
 
 /* ---- layout ------------------------------------------------------------------------------------------------- */
@@ -395,7 +407,17 @@ DSG_AT(dsg_collection, number, 1);
 DSG_AT(dsg_collection, filled, 2);
 DSG_AT(dsg_collection, lengths, 18);
 
-/* @TUNNEL-LAYOUT@ */
+DSG_SIZE(dsg_tunnel, 624);
+DSG_AT(dsg_tunnel, address, 0);
+DSG_AT(dsg_tunnel, mode, 8);
+DSG_AT(dsg_tunnel, count, 9);
+DSG_AT(dsg_tunnel, destinations, 12);
+DSG_AT(dsg_tunnel, sources, 140);
+DSG_AT(dsg_tunnel, masks, 268);
+DSG_AT(dsg_tunnel, starts, 396);
+DSG_AT(dsg_tunnel, ends, 460);
+DSG_AT(dsg_tunnel, numbers, 524);
+DSG_AT(dsg_tunnel, ports, 588);
 
 DSG_SIZE(dsg_modem, 28);
 DSG_AT(dsg_modem, last, 0);
