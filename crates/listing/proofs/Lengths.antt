@@ -3,7 +3,7 @@
 --   join-short      two texts, one behind the other        end-short         a text is as long as it is
 --   field-short     a word and a number below a bound      count-short       a word and a count
 --   address-short   a word and a tunnel address
---   sizesLine-short 44, ruleLine-short 66, classifierLine-short 30, channelLine-short 19, timersLine-short 31, refusalText-short 36, waitingText-short 29
+--   sizesLine-short 44, ruleLine-short 66, classifierLine-short 30, channelLine-short 19, timersLine-short 31, refusalText-short 36, waitingText-short 12
 -- Trusts: nothing.
 use Prim.Native.Nat.{ℕ, suc, _+_, _^_, _≤_, _<_}
 use mathlib.Core.List.{List, _++_}
@@ -75,6 +75,6 @@ pub refusalText-short : (number offset : ℕ) → number < 256 → offset < 2 ^ 
 unfolding refusalText
 refusalText-short number offset h p = join-short 11 25 (field-short _ 2 h tt) (join-short 24 1 (field-short _ 19 p tt) (end-short _))
 
-pub waitingText-short : (slots : ℕ) → slots < 2 ^ 64 → Short 29 (waitingText slots)
+pub waitingText-short : (slots : ℕ) → slots < 256 → Short 12 (waitingText slots)
 unfolding waitingText
-waitingText-short slots h = join-short 28 1 (field-short _ 19 h tt) (end-short _)
+waitingText-short slots h = join-short 11 1 (field-short _ 2 h tt) (end-short _)

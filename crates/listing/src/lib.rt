@@ -60,7 +60,7 @@ pub fn list_refusal(number: u8, offset: usize, out: &mut [u8]) -> Listed
 }
 
 // The listing of a collection that waits for so many slots.
-pub fn list_waiting(slots: usize, out: &mut [u8]) -> Listed
+pub fn list_waiting(slots: u8, out: &mut [u8]) -> Listed
     ensures { λ r. ⌜ record { answer = written r; out = now (out .exit) } ≡ listing (waitingText slots) (now (out .entry)) ⌝ }
 {
     if out.len() < LISTING_BYTES {

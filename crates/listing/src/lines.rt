@@ -135,9 +135,9 @@ pub(crate) fn put_refusal(number: u8, offset: usize, out: &mut [u8], at: usize) 
 }
 
 // The line of an unfinished collection.
-pub(crate) fn put_waiting(slots: usize, out: &mut [u8], at: usize) -> usize
-    requires { ⌜ at + 29 ≤ length (now out) ⌝ }
-    ensures { λ r. ⌜ Lined 29 (now (out .entry)) at (waitingText slots) (now (out .exit)) r ⌝ }
+pub(crate) fn put_waiting(slots: u8, out: &mut [u8], at: usize) -> usize
+    requires { ⌜ at + 12 ≤ length (now out) ⌝ }
+    ensures { λ r. ⌜ Lined 12 (now (out .entry)) at (waitingText slots) (now (out .exit)) r ⌝ }
 {
     let a = put_field(b"waiting ", slots as u64, out, at);
     put_word(b"\n", out, a)

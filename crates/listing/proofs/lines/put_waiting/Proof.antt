@@ -9,11 +9,11 @@ use Rattle.listing.proofs.lines.put_waiting.Statement.{statement}
 use Rattle.listing.proofs.lines.put_waiting.Tie as tie
 
 -- the line is short enough, and so has room
-short : (c : tie.Start) → Short 29 (waitingText (c .args .slots))
+short : (c : tie.Start) → Short 12 (waitingText (c .args .slots))
 short c = waitingText-short _ (c .fits .slots .fits)
 
 fits : (c : tie.Start) → Fits (c .args .out .now) (c .args .at) (waitingText (c .args .slots))
-fits c = fits-most 29 (c .pre) (short c)
+fits c = fits-most 12 (c .pre) (short c)
 
 put-field-requires : tie.Need-put-field-requires
 unfolding waitingText
