@@ -1,0 +1,62 @@
+-- Demand2: collecting pieces, reading a table, choosing the tunnel, judging a frame and stepping the modem give exactly their definitions.
+--
+-- For each entry, NAME-met: the compiled function meets its contract, as its own crate proves; and NAME-gives: whatever meets that contract
+-- gives, for every input, the definition. What the definitions mean is for a reader to see (docs/MAP.md).
+-- Trusts: nothing.
+use Prim.Native.Nat.{ℕ}
+use mathlib.Core.Path.{_≡_, refl}
+use mathlib.Core.List.{List}
+use contract.Lifetimes.{Lfts}
+use denote.Ref.{now}
+use denote.Triple.Entry.{Args, Res}
+use denote.Triple.Clauses.{AtExit}
+use Rattle.demands.proofs.Contract.{Gives, Says, answer}
+use Rattle.collector.specs.Answers.{said, lentOf}
+use Rattle.collector.specs.Step.{emptyCollection, After, pieceOf, collectStep}
+use Rattle.collector.proofs.empty_collection.Reads as empty_collection
+use Rattle.collector.proofs.collect.Reads as collect
+use Rattle.collector.proofs.collect.Statement as collect′
+use Rattle.collector.proofs.collect.Met as collect″
+use Rattle.collector.proofs.message.Reads as message
+use Rattle.collector.proofs.collect_lent as collect_lent
+use Rattle.choice.specs.Best.{isBetter}
+use Rattle.choice.specs.Choose.{choiceOf}
+use Rattle.choice.proofs.is_better.Reads as is_better
+use Rattle.choice.proofs.choose_rule.Reads as choose_rule
+use Rattle.choice.proofs.choose_rule.Statement as choose_rule′
+use Rattle.choice.proofs.choose_rule.Met as choose_rule″
+
+-- ---- collecting pieces: the answer, the record and both buffers; the message lent with an answer
+
+pub collect-met : {M : Type 1} → collect′.statement M
+collect-met = collect″.met
+
+pub collect-gives : (κs : Lfts 3) → Gives {L = After} (λ x s. record { answer = said (x .answer); held = x .held; slots = now (s .1 .0); join = now (s .1 .1 .0) }) (collect.Post κs)
+    (λ a. collectStep (a .0) (now (a .1 .0)) (now (a .1 .1 .0)) (now (a .1 .1 .1 .0)))
+collect-gives κs a x s h = h
+
+pub message-gives : (κs : Lfts 1) → Gives (λ x s. now x) (message.Post κs) (λ a. lentOf (said (a .0 .answer)) (a .0 .held .number) (now (a .1 .0)) (now (a .1 .1 .0)))
+message-gives κs a x s h = h
+
+pub empty_collection-gives : (κs : Lfts 0) → Gives answer (empty_collection.Post κs) (λ a. emptyCollection 0 0)
+empty_collection-gives κs a x s h = h
+
+-- the same with both slices lent: walked by hand, so its plain fact is written out, and `collect_lent-says` is that it is the contract
+abbrev pub CollectLent : (κs : Lfts 3) → Args collect_lent.signature κs → Res collect_lent.signature κs → AtExit collect_lent.ended κs → Type 0
+CollectLent κs a x s =
+    (_≡_ {A = After} (record { answer = said (x .outcome .answer); held = x .outcome .held; slots = now (s .1 .0); join = now (x .join) })
+    (collectStep (a .0) (now (a .1 .0)) (now (a .1 .1 .0)) (now (a .1 .1 .1 .0)))) × (now (x .body) ≡ pieceOf (now (a .1 .1 .1 .0)))
+
+pub collect_lent-says : Says collect_lent.ended (λ M 𝓤 H. collect_lent.clauses 𝓤 H) CollectLent
+collect_lent-says M 𝓤 H A mem run κs a g x s = refl
+
+-- ---- choosing the tunnel for a client
+
+pub choose_rule-met : {M : Type 1} → choose_rule′.statement M
+choose_rule-met = choose_rule″.met
+
+pub choose_rule-gives : (κs : Lfts 0) → Gives answer (choose_rule.Post κs) (λ a. choiceOf (a .0) (a .1 .0) (a .1 .1 .0))
+choose_rule-gives κs a x s h = h
+
+pub is_better-gives : (κs : Lfts 0) → Gives answer (is_better.Post κs) (λ a. isBetter (a .0) (a .1 .0) (a .1 .1 .0))
+is_better-gives κs a x s h = h

@@ -1,0 +1,7 @@
+-- Contract: what it means that a contract gives a definition, and that it admits one answer.
+-- Parts: the contracts of the lower crates.      Demand2: those of the entries that demand 2 names.
+-- OneAnswer: every contract admits one answer.
+pub mod Contract
+pub mod Parts
+pub mod Demand2
+pub mod OneAnswer
