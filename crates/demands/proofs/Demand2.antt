@@ -25,6 +25,20 @@ use Rattle.choice.proofs.is_better.Reads as is_better
 use Rattle.choice.proofs.choose_rule.Reads as choose_rule
 use Rattle.choice.proofs.choose_rule.Statement as choose_rule′
 use Rattle.choice.proofs.choose_rule.Met as choose_rule″
+use Rattle.modem.specs.Record as kept
+use Rattle.modem.specs.Record.{emptyModem}
+use Rattle.modem.specs.Step.{steppedModem}
+use Rattle.modem.specs.Numbers.{numberedStep}
+use Rattle.modem.proofs.step_modem.Reads as step_modem
+use Rattle.modem.proofs.step_modem.Statement as step_modem′
+use Rattle.modem.proofs.step_modem.Met as step_modem″
+use Rattle.modem.proofs.step_numbered.Reads as step_numbered
+use Rattle.modem.proofs.transmits.Reads as transmits
+use Rattle.modem.proofs.forwards.Reads as forwards
+use Rattle.modem.proofs.empty_modem.Reads as empty_modem
+use Rattle.modem.proofs.on_event as on_event
+use Rattle.modem.proofs.on_event.Statement as on_event′
+use Rattle.modem.proofs.on_event.Met as on_event″
 
 -- ---- collecting pieces: the answer, the record and both buffers; the message lent with an answer
 
@@ -60,3 +74,34 @@ choose_rule-gives κs a x s h = h
 
 pub is_better-gives : (κs : Lfts 0) → Gives answer (is_better.Post κs) (λ a. isBetter (a .0) (a .1 .0) (a .1 .1 .0))
 is_better-gives κs a x s h = h
+
+-- ---- stepping the modem
+
+pub step_modem-met : {M : Type 1} → step_modem′.statement M
+step_modem-met = step_modem″.met
+
+pub step_modem-gives : (κs : Lfts 0) → Gives answer (step_modem.Post κs) (λ a. steppedModem (a .0) (a .1 .0) (a .1 .1 .0))
+step_modem-gives κs a x s h = h
+
+pub step_numbered-gives : (κs : Lfts 0) → Gives answer (step_numbered.Post κs)
+    (λ a. numberedStep (a .0) (a .1 .0) (a .1 .1 .0) (a .1 .1 .1 .0) (a .1 .1 .1 .1 .0) (a .1 .1 .1 .1 .1 .0) (a .1 .1 .1 .1 .1 .1 .0))
+step_numbered-gives κs a x s h = h
+
+pub transmits-gives : (κs : Lfts 0) → Gives answer (transmits.Post κs) (λ a. kept.transmits (a .0))
+transmits-gives κs a x s h = h
+
+pub forwards-gives : (κs : Lfts 0) → Gives answer (forwards.Post κs) (λ a. kept.forwards (a .0))
+forwards-gives κs a x s h = h
+
+pub empty_modem-gives : (κs : Lfts 0) → Gives answer (empty_modem.Post κs) (λ a. emptyModem)
+empty_modem-gives κs a x s h = h
+
+-- the same on a record that is lent: walked by hand
+abbrev pub OnEvent : (κs : Lfts 1) → Args on_event.signature κs → Res on_event.signature κs → AtExit on_event.ended κs → Type 0
+OnEvent κs a x s = (now (s .0) ≡ steppedModem (now (a .0)) (a .1 .0) (a .1 .1 .0) .modem) × (x ≡ steppedModem (now (a .0)) (a .1 .0) (a .1 .1 .0) .answer)
+
+pub on_event-met : {M : Type 1} → on_event′.statement M
+on_event-met = on_event″.met
+
+pub on_event-says : Says on_event.ended (λ M 𝓤 H. on_event.clauses 𝓤 H) OnEvent
+on_event-says M 𝓤 H A mem run κs a g x s = refl
