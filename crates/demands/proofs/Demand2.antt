@@ -19,12 +19,17 @@ use Rattle.collector.proofs.collect.Statement as collect′
 use Rattle.collector.proofs.collect.Met as collect″
 use Rattle.collector.proofs.message.Reads as message
 use Rattle.collector.proofs.collect_lent as collect_lent
+use Rattle.collector.proofs.collect_lent.Statement as collect_lent′
+use Rattle.collector.proofs.collect_lent.Met as collect_lent″
 use Rattle.choice.specs.Best.{isBetter}
 use Rattle.choice.specs.Choose.{choiceOf}
 use Rattle.choice.proofs.is_better.Reads as is_better
 use Rattle.choice.proofs.choose_rule.Reads as choose_rule
 use Rattle.choice.proofs.choose_rule.Statement as choose_rule′
 use Rattle.choice.proofs.choose_rule.Met as choose_rule″
+use Rattle.modem.specs.declared.Modem.{Modem}
+use Rattle.modem.specs.declared.Answer.{Answer}
+use Rattle.modem.specs.declared.Stepped.{Stepped}
 use Rattle.modem.specs.Record as kept
 use Rattle.modem.specs.Record.{emptyModem}
 use Rattle.modem.specs.Step.{steppedModem}
@@ -39,6 +44,9 @@ use Rattle.modem.proofs.empty_modem.Reads as empty_modem
 use Rattle.modem.proofs.on_event as on_event
 use Rattle.modem.proofs.on_event.Statement as on_event′
 use Rattle.modem.proofs.on_event.Met as on_event″
+
+pair : {A B : Type 0} {a c : A} {b d : B} → a ≡ c → b ≡ d → _≡_ {A = A × B} (a, b) (c, d)
+pair {A} {B} e f = rw (e, f) refl
 
 -- ---- collecting pieces: the answer, the record and both buffers; the message lent with an answer
 
@@ -63,6 +71,14 @@ CollectLent κs a x s =
 
 pub collect_lent-says : Says collect_lent.ended (λ M 𝓤 H. collect_lent.clauses 𝓤 H) CollectLent
 collect_lent-says M 𝓤 H A mem run κs a g x s = refl
+
+pub collect_lent-met : {M : Type 1} → collect_lent′.statement M
+collect_lent-met = collect_lent″.met
+
+pub collect_lent-gives : (κs : Lfts 3)
+    → Gives {L = After × List ℕ} (λ x s. (record { answer = said (x .outcome .answer); held = x .outcome .held; slots = now (s .1 .0); join = now (x .join) }, now (x .body))) (CollectLent κs)
+    (λ a. (collectStep (a .0) (now (a .1 .0)) (now (a .1 .1 .0)) (now (a .1 .1 .1 .0)), pieceOf (now (a .1 .1 .1 .0))))
+collect_lent-gives κs a x s h = pair (h .0) (h .1)
 
 -- ---- choosing the tunnel for a client
 
@@ -105,3 +121,9 @@ on_event-met = on_event″.met
 
 pub on_event-says : Says on_event.ended (λ M 𝓤 H. on_event.clauses 𝓤 H) OnEvent
 on_event-says M 𝓤 H A mem run κs a g x s = refl
+
+stepped : (a b : Answer) (m n : Modem) → a ≡ b → m ≡ n → _≡_ {A = Stepped} (record { answer = a; modem = m }) (record { answer = b; modem = n })
+stepped a b m n e f = rw (e, f) refl
+
+pub on_event-gives : (κs : Lfts 1) → Gives {L = Stepped} (λ x s. record { answer = x; modem = now (s .0) }) (OnEvent κs) (λ a. steppedModem (now (a .0)) (a .1 .0) (a .1 .1 .0))
+on_event-gives κs a x s h = stepped _ _ _ _ (h .1) (h .0)

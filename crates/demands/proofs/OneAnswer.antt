@@ -1,9 +1,12 @@
 -- OneAnswer: the contract of every public function admits one answer only: two results that meet it on the same arguments show the
 -- same answer, and leave the same in everything that was lent to be written.
 --
--- One law, `only` of proofs/Contract.antt, and a line for each function. Of a result that is a lent part its contents are meant.
+-- One law, `only` of proofs/Contract.antt, and a line for each function. Of a result that is a lent part its contents are meant, and of an
+-- answer of the collector what it says: `said-only` of crate collector_demands, proofs/Controls.antt, is that this is the answer.
 -- Not here: `main` of dcdlist, whose contract can say nothing of what is read or written (docs/CONTRACTS.md).
 -- Trusts: nothing.
+use Prim.Native.Nat.{ℕ}
+use mathlib.Core.List.{List}
 use contract.Lifetimes.{Lfts}
 use denote.Ref.{now}
 use Rattle.demands.proofs.Contract.{One, only, answer}
@@ -12,6 +15,7 @@ use Rattle.demands.proofs.Demand2 as demand2
 use Rattle.listing.specs.Listing.{Listing}
 use Rattle.collector.specs.Answers.{said}
 use Rattle.collector.specs.Step.{After}
+use Rattle.modem.specs.declared.Stepped.{Stepped}
 use Rattle.wire.proofs.number2.Reads as number2
 use Rattle.wire.proofs.number4.Reads as number4
 use Rattle.wire.proofs.number6.Reads as number6
@@ -23,11 +27,23 @@ use Rattle.table.proofs.empty_rule.Reads as empty_rule
 use Rattle.table.proofs.empty_classifier.Reads as empty_classifier
 use Rattle.table.proofs.empty_table.Reads as empty_table
 use Rattle.elements.proofs.read_head.Reads as read_head
+use Rattle.elements.proofs.types.find_type.Reads as find_type
+use Rattle.elements.proofs.types.lacks_must.Reads as lacks_must
+use Rattle.rows.proofs.empty_tally.Reads as empty_tally
+use Rattle.rows.proofs.test_element.Reads as test_element
+use Rattle.contents.proofs.rule_at.Reads as rule_at
+use Rattle.contents.proofs.classifier_at.Reads as classifier_at
+use Rattle.contents.proofs.configuration_at.Reads as configuration_at
 use Rattle.collector.proofs.empty_collection.Reads as empty_collection
 use Rattle.collector.proofs.collect.Reads as collect
 use Rattle.collector.proofs.message.Reads as message
 use Rattle.choice.proofs.is_better.Reads as is_better
 use Rattle.choice.proofs.choose_rule.Reads as choose_rule
+use Rattle.modem.proofs.empty_modem.Reads as empty_modem
+use Rattle.modem.proofs.step_modem.Reads as step_modem
+use Rattle.modem.proofs.step_numbered.Reads as step_numbered
+use Rattle.modem.proofs.transmits.Reads as transmits
+use Rattle.modem.proofs.forwards.Reads as forwards
 use Rattle.listing.proofs.list_table.Reads as list_table
 use Rattle.listing.proofs.list_refusal.Reads as list_refusal
 use Rattle.listing.proofs.list_waiting.Reads as list_waiting
@@ -71,6 +87,31 @@ empty_table-one κs = only (parts.empty_table-gives κs)
 pub read_head-one : (κs : Lfts 1) → One answer (read_head.Post κs)
 read_head-one κs = only (parts.read_head-gives κs)
 
+pub find_type-one : (κs : Lfts 0) → One answer (find_type.Post κs)
+find_type-one κs = only (parts.find_type-gives κs)
+
+pub lacks_must-one : (κs : Lfts 0) → One answer (lacks_must.Post κs)
+lacks_must-one κs = only (parts.lacks_must-gives κs)
+
+-- ---- rows
+
+pub empty_tally-one : (κs : Lfts 0) → One answer (empty_tally.Post κs)
+empty_tally-one κs = only (parts.empty_tally-gives κs)
+
+pub test_element-one : (κs : Lfts 1) → One answer (test_element.Post κs)
+test_element-one κs = only (parts.test_element-gives κs)
+
+-- ---- contents
+
+pub rule_at-one : (κs : Lfts 1) → One answer (rule_at.Post κs)
+rule_at-one κs = only (parts.rule_at-gives κs)
+
+pub classifier_at-one : (κs : Lfts 1) → One answer (classifier_at.Post κs)
+classifier_at-one κs = only (parts.classifier_at-gives κs)
+
+pub configuration_at-one : (κs : Lfts 1) → One answer (configuration_at.Post κs)
+configuration_at-one κs = only (parts.configuration_at-gives κs)
+
 -- ---- collector
 
 pub empty_collection-one : (κs : Lfts 0) → One answer (empty_collection.Post κs)
@@ -82,6 +123,9 @@ collect-one κs = only (demand2.collect-gives κs)
 pub message-one : (κs : Lfts 1) → One (λ x s. now x) (message.Post κs)
 message-one κs = only (demand2.message-gives κs)
 
+pub collect_lent-one : (κs : Lfts 3) → One {L = After × List ℕ} (λ x s. (record { answer = said (x .outcome .answer); held = x .outcome .held; slots = now (s .1 .0); join = now (x .join) }, now (x .body))) (demand2.CollectLent κs)
+collect_lent-one κs = only (demand2.collect_lent-gives κs)
+
 -- ---- choice
 
 pub is_better-one : (κs : Lfts 0) → One answer (is_better.Post κs)
@@ -89,6 +133,26 @@ is_better-one κs = only (demand2.is_better-gives κs)
 
 pub choose_rule-one : (κs : Lfts 0) → One answer (choose_rule.Post κs)
 choose_rule-one κs = only (demand2.choose_rule-gives κs)
+
+-- ---- modem
+
+pub empty_modem-one : (κs : Lfts 0) → One answer (empty_modem.Post κs)
+empty_modem-one κs = only (demand2.empty_modem-gives κs)
+
+pub step_modem-one : (κs : Lfts 0) → One answer (step_modem.Post κs)
+step_modem-one κs = only (demand2.step_modem-gives κs)
+
+pub step_numbered-one : (κs : Lfts 0) → One answer (step_numbered.Post κs)
+step_numbered-one κs = only (demand2.step_numbered-gives κs)
+
+pub transmits-one : (κs : Lfts 0) → One answer (transmits.Post κs)
+transmits-one κs = only (demand2.transmits-gives κs)
+
+pub forwards-one : (κs : Lfts 0) → One answer (forwards.Post κs)
+forwards-one κs = only (demand2.forwards-gives κs)
+
+pub on_event-one : (κs : Lfts 1) → One {L = Stepped} (λ x s. record { answer = x; modem = now (s .0) }) (demand2.OnEvent κs)
+on_event-one κs = only (demand2.on_event-gives κs)
 
 -- ---- listing
 

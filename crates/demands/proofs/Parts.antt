@@ -1,4 +1,4 @@
--- Parts: what the public functions of the lower crates give (wire, table, elements, listing): each its definition, for every input.
+-- Parts: what the public functions of the lower crates give (wire, table, elements, rows, contents, listing): each its definition, for every input.
 --
 -- It says nothing of what the definitions mean; docs/MAP.md says where they stand. `met` of each function, in its own crate, says that the
 -- compiled function meets the contract cited here.
@@ -23,6 +23,19 @@ use Rattle.table.proofs.empty_classifier.Reads as empty_classifier
 use Rattle.table.proofs.empty_table.Reads as empty_table
 use Rattle.elements.specs.Elements.{headAt}
 use Rattle.elements.proofs.read_head.Reads as read_head
+use Rattle.elements.specs.Places.{typeUnder, lacksMust}
+use Rattle.elements.proofs.types.find_type.Reads as find_type
+use Rattle.elements.proofs.types.lacks_must.Reads as lacks_must
+use Rattle.rows.specs.Tests.{emptyTally}
+use Rattle.rows.specs.Rows.{testedAt}
+use Rattle.rows.proofs.empty_tally.Reads as empty_tally
+use Rattle.rows.proofs.test_element.Reads as test_element
+use Rattle.contents.specs.Rules.{ruleAt}
+use Rattle.contents.specs.Classifiers.{classifierAt}
+use Rattle.contents.specs.Configurations.{configurationAt}
+use Rattle.contents.proofs.rule_at.Reads as rule_at
+use Rattle.contents.proofs.classifier_at.Reads as classifier_at
+use Rattle.contents.proofs.configuration_at.Reads as configuration_at
 use Rattle.listing.specs.Text.{tableText, refusalText, waitingText}
 use Rattle.listing.specs.Listing.{Listing, listing}
 use Rattle.listing.proofs.list_table.Reads as list_table
@@ -67,6 +80,31 @@ empty_table-gives κs a x s h = h
 
 pub read_head-gives : (κs : Lfts 1) → Gives answer (read_head.Post κs) (λ a. headAt (now (a .0)) (a .1 .0) (a .1 .1 .0))
 read_head-gives κs a x s h = h
+
+pub find_type-gives : (κs : Lfts 0) → Gives answer (find_type.Post κs) (λ a. typeUnder (a .0) (a .1 .0))
+find_type-gives κs a x s h = h
+
+pub lacks_must-gives : (κs : Lfts 0) → Gives answer (lacks_must.Post κs) (λ a. lacksMust (a .0) (a .1 .0))
+lacks_must-gives κs a x s h = h
+
+-- ---- rows
+
+pub empty_tally-gives : (κs : Lfts 0) → Gives answer (empty_tally.Post κs) (λ a. emptyTally)
+empty_tally-gives κs a x s h = h
+
+pub test_element-gives : (κs : Lfts 1) → Gives answer (test_element.Post κs) (λ a. testedAt (now (a .0)) (a .1 .0) (a .1 .1 .0))
+test_element-gives κs a x s h = h
+
+-- ---- contents
+
+pub rule_at-gives : (κs : Lfts 1) → Gives answer (rule_at.Post κs) (λ a. ruleAt (now (a .0)) (a .1 .0))
+rule_at-gives κs a x s h = h
+
+pub classifier_at-gives : (κs : Lfts 1) → Gives answer (classifier_at.Post κs) (λ a. classifierAt (now (a .0)) (a .1 .0))
+classifier_at-gives κs a x s h = h
+
+pub configuration_at-gives : (κs : Lfts 1) → Gives answer (configuration_at.Post κs) (λ a. configurationAt (now (a .0)) (a .1 .0))
+configuration_at-gives κs a x s h = h
 
 -- ---- listing: the answer and the lent buffer
 
