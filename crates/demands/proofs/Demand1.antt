@@ -2,6 +2,7 @@
 --
 --   collectStep-refused    a body: 1 to 5; the record and both buffers are as they were
 --   choiceOf-refused       a client: 17
+--   verdictOf-refused      a frame: 16 or 17
 --   headAt-refused         the head of an element: 6 to 8
 --   steppedModem-refused   an event: 18; the modem record is as it was
 --   listing-refused        a listing: 100, a number of our own; the buffer is as it was
@@ -13,6 +14,7 @@ use Prim.Native.Nat.{ℕ, _*_, _-_, _≤_}
 use mathlib.Core.Path.{_≡_, refl, sym, ap, _∙_}
 use mathlib.Core.Bool.{Bool, true, false, cond, not, _&&_, _||_}
 use mathlib.Core.List.{List, [], _∷_, _++_}
+use mathlib.Core.Logic.{_⊎_, inl, inr}
 use native.Mathlib.Omega.{arith}
 use borrow.Author.Tests.{eqb-false}
 use lib.ListN.{length, getD, drop}
@@ -29,6 +31,11 @@ use Rattle.choice.specs.declared.Ucid.{Ucid}
 use Rattle.choice.specs.declared.Choice.{Choice}
 use Rattle.choice.specs.declared.Choice.the-variants as choice
 use Rattle.choice.specs.Choose.{chosenPlace, choiceOf}
+use Rattle.table.specs.Table.{classifiersOf, emptyClassifier}
+use Rattle.choice.specs.Choose.{ruleAt}
+use Rattle.tunnel.specs.declared.Verdict.{Verdict}
+use Rattle.tunnel.specs.declared.Verdict.the-variants as verdict
+use Rattle.tunnel.specs.Judge.{wrongLength, addressAt, matchPlace, ruleVerdict, choiceVerdict, verdictOf}
 use Rattle.elements.specs.Elements.{headAt}
 use Rattle.elements.specs.declared.Head.{Head}
 use Rattle.elements.specs.declared.Head.the-variants as head
@@ -100,6 +107,24 @@ choiceOf-refused t c u n = go (ltb (chosenPlace c u (rulesOf t)) (length (rulesO
   go : (b : Bool) → cond b (choice.Chosen (chosenPlace c u (rulesOf t))) (choice.Refused 17) ≡ choice.Refused n → n ≡ 17
   go true e = absurd (let z : _≡_ {A = ℕ} 0 1 = cc in omega arith)
   go false e = cc
+
+-- ---- judging
+
+pub verdictOf-refused : (t : Table) (c : Client) (u : Ucid) (frame : List ℕ) (n : ℕ) → verdictOf t c u frame ≡ verdict.Refused n → (n ≡ 16) ⊎ (n ≡ 17)
+unfolding verdictOf choiceVerdict ruleVerdict
+verdictOf-refused t c u frame n = go (wrongLength frame) (choiceOf t c u) refl where
+  chosen : (k : ℕ) → ruleVerdict t (ruleAt t k) frame ≡ verdict.Refused n → ⊥
+  chosen k = among (not (eqb (addressAt frame) (ruleAt t k .tunnel))) (eqb (ruleAt t k .numbercount) 0) (ltb (matchPlace t (ruleAt t k) frame) (length (classifiersOf t))) where
+    among : (x y z : Bool) → cond x verdict.Other (cond y (verdict.Forward 0) (cond z (verdict.Forward (getD (classifiersOf t) (matchPlace t (ruleAt t k) frame) emptyClassifier .number)) verdict.Filtered)) ≡ verdict.Refused n → ⊥
+    among true y z e = let q : _≡_ {A = ℕ} 0 1 = cc in omega arith
+    among false true z e = let q : _≡_ {A = ℕ} 0 1 = cc in omega arith
+    among false false true e = let q : _≡_ {A = ℕ} 0 1 = cc in omega arith
+    among false false false e = let q : _≡_ {A = ℕ} 0 1 = cc in omega arith
+
+  go : (w : Bool) (k : Choice) → choiceOf t c u ≡ k → cond w (verdict.Refused 16) (choiceVerdict t frame k) ≡ verdict.Refused n → (n ≡ 16) ⊎ (n ≡ 17)
+  go true k f e = inl (cc)
+  go false (choice.Refused m) f e = inr (let d : m ≡ 17 = choiceOf-refused t c u m f in cc)
+  go false (choice.Chosen place) f e = absurd (chosen place e)
 
 -- ---- the head of an element
 

@@ -27,6 +27,15 @@ use Rattle.choice.proofs.is_better.Reads as is_better
 use Rattle.choice.proofs.choose_rule.Reads as choose_rule
 use Rattle.choice.proofs.choose_rule.Statement as choose_rule′
 use Rattle.choice.proofs.choose_rule.Met as choose_rule″
+use Rattle.tunnel.specs.Judge.{verdictOf, payloadOf}
+use Rattle.tunnel.specs.Prepared.{preparedTunnel, lentTunnel, preparedVerdict}
+use Rattle.tunnel.proofs.judge_frame.Reads as judge_frame
+use Rattle.tunnel.proofs.judge_frame.Statement as judge_frame′
+use Rattle.tunnel.proofs.judge_frame.Met as judge_frame″
+use Rattle.tunnel.proofs.payload.Reads as payload
+use Rattle.tunnel.proofs.prepare_tunnel.Reads as prepare_tunnel
+use Rattle.tunnel.proofs.judge_prepared.Reads as judge_prepared
+use Rattle.tunnel.proofs.judge_lent.Reads as judge_lent
 use Rattle.modem.specs.declared.Modem.{Modem}
 use Rattle.modem.specs.declared.Answer.{Answer}
 use Rattle.modem.specs.declared.Stepped.{Stepped}
@@ -90,6 +99,29 @@ choose_rule-gives κs a x s h = h
 
 pub is_better-gives : (κs : Lfts 0) → Gives answer (is_better.Post κs) (λ a. isBetter (a .0) (a .1 .0) (a .1 .1 .0))
 is_better-gives κs a x s h = h
+
+-- ---- judging a frame; and by a tunnel that was chosen once
+
+pub judge_frame-met : {M : Type 1} → judge_frame′.statement M
+judge_frame-met = judge_frame″.met
+
+pub judge_frame-gives : (κs : Lfts 1) → Gives answer (judge_frame.Post κs) (λ a. verdictOf (a .0) (a .1 .0) (a .1 .1 .0) (now (a .1 .1 .1 .0)))
+judge_frame-gives κs a x s h = h
+
+pub payload-gives : (κs : Lfts 1) → Gives (λ x s. now x) (payload.Post κs) (λ a. payloadOf (a .0) (now (a .1 .0)))
+payload-gives κs a x s h = h
+
+pub prepare_tunnel-gives : (κs : Lfts 0) → Gives answer (prepare_tunnel.Post κs) (λ a. preparedTunnel (a .0) (a .1 .0) (a .1 .1 .0))
+prepare_tunnel-gives κs a x s h = h
+
+pub judge_prepared-gives : (κs : Lfts 1) → Gives answer (judge_prepared.Post κs) (λ a. preparedVerdict (a .0) (now (a .1 .0)))
+judge_prepared-gives κs a x s h = h
+
+-- the tunnel in its parts: mode, address, count and seven arrays
+pub judge_lent-gives : (κs : Lfts 2) → Gives answer (judge_lent.Post κs) (λ a. preparedVerdict (lentTunnel (a .0) (a .1 .0) (a .1 .1 .0)
+    (now (a .1 .1 .1 .0)) (now (a .1 .1 .1 .1 .0)) (now (a .1 .1 .1 .1 .1 .0)) (now (a .1 .1 .1 .1 .1 .1 .0)) (now (a .1 .1 .1 .1 .1 .1 .1 .0)) (now (a .1 .1 .1 .1 .1 .1 .1 .1 .0)) (now (a .1 .1 .1 .1 .1 .1 .1 .1 .1 .0)))
+    (now (a .1 .1 .1 .1 .1 .1 .1 .1 .1 .1 .0)))
+judge_lent-gives κs a x s h = h
 
 -- ---- stepping the modem
 

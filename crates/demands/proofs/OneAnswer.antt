@@ -39,6 +39,11 @@ use Rattle.collector.proofs.collect.Reads as collect
 use Rattle.collector.proofs.message.Reads as message
 use Rattle.choice.proofs.is_better.Reads as is_better
 use Rattle.choice.proofs.choose_rule.Reads as choose_rule
+use Rattle.tunnel.proofs.judge_frame.Reads as judge_frame
+use Rattle.tunnel.proofs.payload.Reads as payload
+use Rattle.tunnel.proofs.prepare_tunnel.Reads as prepare_tunnel
+use Rattle.tunnel.proofs.judge_prepared.Reads as judge_prepared
+use Rattle.tunnel.proofs.judge_lent.Reads as judge_lent
 use Rattle.modem.proofs.empty_modem.Reads as empty_modem
 use Rattle.modem.proofs.step_modem.Reads as step_modem
 use Rattle.modem.proofs.step_numbered.Reads as step_numbered
@@ -133,6 +138,23 @@ is_better-one κs = only (demand2.is_better-gives κs)
 
 pub choose_rule-one : (κs : Lfts 0) → One answer (choose_rule.Post κs)
 choose_rule-one κs = only (demand2.choose_rule-gives κs)
+
+-- ---- tunnel
+
+pub judge_frame-one : (κs : Lfts 1) → One answer (judge_frame.Post κs)
+judge_frame-one κs = only (demand2.judge_frame-gives κs)
+
+pub payload-one : (κs : Lfts 1) → One (λ x s. now x) (payload.Post κs)
+payload-one κs = only (demand2.payload-gives κs)
+
+pub prepare_tunnel-one : (κs : Lfts 0) → One answer (prepare_tunnel.Post κs)
+prepare_tunnel-one κs = only (demand2.prepare_tunnel-gives κs)
+
+pub judge_prepared-one : (κs : Lfts 1) → One answer (judge_prepared.Post κs)
+judge_prepared-one κs = only (demand2.judge_prepared-gives κs)
+
+pub judge_lent-one : (κs : Lfts 2) → One answer (judge_lent.Post κs)
+judge_lent-one κs = only (demand2.judge_lent-gives κs)
 
 -- ---- modem
 
