@@ -7,15 +7,13 @@
 use Prim.Native.Nat.{ℕ}
 use mathlib.Core.List.{List}
 use Rattle.table.specs.declared.Table.{Table}
-use Rattle.listing.specs.declared.Listed as texts
-use Rattle.listing.specs.declared.Listed.the-variants.{Text, Refused}
 use Rattle.listing.specs.Text.{tableText}
-use Rattle.listing.specs.Listing.{Listing, listing}
+use Rattle.listing.specs.Listing.{Written, text, refused, Listing, listing}
 use Rattle.dsg.specs.declared.tables.Listed.{Listed}
 
-abbrev pub listedAs : texts.Listed → Listed
-listedAs (Text n) = record { number = 0; length = n }
-listedAs (Refused n) = record { number = n; length = 0 }
+abbrev pub listedAs : Written → Listed
+listedAs (text n) = record { number = 0; length = n }
+listedAs (refused n) = record { number = n; length = 0 }
 
 pub record ListAfter : Type 0 where
   pub answer : Listed

@@ -3,6 +3,7 @@
 // `dsg_empty_table` and `dsg_list_table`.
 ghost use mathlib.Core.Path.{_≡_};
 ghost use Rattle.table.specs.Table.{emptyTable};
+ghost use Rattle.listing.specs.Listing.{written};
 ghost use Rattle.dsg.specs.Tables.{listedAs, listAfter};
 use table::Table;
 
@@ -15,7 +16,7 @@ pub struct Listed {
 
 // The numbers of a listing's answer.
 fn listed_from(listed: listing::Listed) -> Listed
-    ensures { λ r. ⌜ r ≡ listedAs listed ⌝ }
+    ensures { λ r. ⌜ r ≡ listedAs (written listed) ⌝ }
 {
     match listed {
         listing::Listed::Text(length) => Listed { number: 0, length },
