@@ -5,6 +5,7 @@
 --   transmits→permitted      the transmitter is on only with permission, whatever the record
 --   nextModem-transmits      so after any step from any record
 --   nextModem-disable        after a Disable that is not refused the transmitter is off
+--   nextModem-silent         and without permission no event but Start and Enable turns it on, no Tick either
 -- Trusts: nothing.
 use Prim.Native.Nat.{ℕ, _≤_}
 use mathlib.Core.Path.{_≡_, refl, sym, _∙_, ap, subst}
@@ -23,7 +24,7 @@ use Rattle.modem.specs.Events.{disableRow, disableEvent, eventOn}
 use Rattle.modem.specs.Step.{isBack, isStart, aged, answerNumber, steppedModem, nextModem}
 use Rattle.modem.proofs.Laws.{and-left, and-right, steppedModem-ignored, steppedModem-back, steppedModem-taken}
 use Rattle.modem.proofs.LawsKept.{Kept, countsIdle→Kept}
-use Rattle.modem.proofs.LawsFrame.{cond-field, cond-same}
+use Rattle.modem.proofs.LawsFrame.{cond-field, cond-same, setsPermission, nextModem-permission}
 
 abbrev stay : Answer → Modem → Stepped
 stay answer m = record { answer = answer; modem = m }
@@ -86,3 +87,6 @@ nextModem-disable m now h = go (countsIdle m) (isBack now (m .last)) refl refl
     go true b hi hb = ap (λ (s : Stepped). transmits (s .modem)) (steppedModem-ignored m now Disable no-start hi) ∙ transmits-idle m hi
     go false true hi hb = let z : _≡_ {A = ℕ} 18 0 = ap (λ (s : Stepped). answerNumber (s .answer)) (sym (steppedModem-back m now Disable no-start hi hb)) ∙ ap answerNumber h in absurd (omega arith)
     go false false hi hb = ap (λ (s : Stepped). transmits (s .modem)) (steppedModem-taken m now Disable no-start hi hb) ∙ unpermitted-silent (eventOn Disable (aged m now)) (silenced (aged m now))
+
+pub nextModem-silent : (m : Modem) (now : ℕ) (ev : Event) → isStart ev ≡ false → setsPermission ev ≡ false → m .permission ≡ 0 → transmits (nextModem m now ev) ≡ false
+nextModem-silent m now ev s h p = unpermitted-silent (nextModem m now ev) (nextModem-permission m now ev s h ∙ p)
