@@ -23,6 +23,10 @@ use Rattle.collector.proofs.message.Reads as message
 use Rattle.collector.proofs.collect_lent as collect_lent
 use Rattle.collector.proofs.collect_lent.Statement as collect_lent′
 use Rattle.collector.proofs.collect_lent.Met as collect_lent″
+use Rattle.reader.specs.Read.{readTable}
+use Rattle.reader.proofs.read_table.Reads as read_table
+use Rattle.reader.proofs.read_table.Statement as read_table′
+use Rattle.reader.proofs.read_table.Met as read_table″
 use Rattle.choice.specs.Best.{isBetter}
 use Rattle.choice.specs.Choose.{choiceOf}
 use Rattle.choice.proofs.is_better.Reads as is_better
@@ -113,6 +117,14 @@ pub collect_lent-gives : (κs : Lfts 3)
     → Gives {L = Parts} (λ x s. record { after = record { answer = said (x .outcome .answer); held = x .outcome .held; slots = now (s .1 .0); join = now (x .joined) ++ now (x .rest) }; own = now (x .own); joined = now (x .joined); rest = now (x .rest) })
     (CollectLent κs) (λ a. partsOf (collectStep (a .0) (now (a .1 .0)) (now (a .1 .1 .0)) (now (a .1 .1 .1 .0))) (now (a .1 .1 .1 .0)))
 collect_lent-gives κs a x s h = parts _ _ _ _ _ _ (h .0) refl (h .1) (h .2)
+
+-- ---- reading a table: the verdict and the table
+
+pub read_table-met : {M : Type 1} → read_table′.statement M
+read_table-met = read_table″.met
+
+pub read_table-gives : (κs : Lfts 1) → Gives answer (read_table.Post κs) (λ a. readTable (a .0) (now (a .1 .0)))
+read_table-gives κs a x s h = h
 
 -- ---- choosing the tunnel for a client
 
