@@ -12,7 +12,8 @@ use denote.Triple.Entry.{Args, Res}
 use denote.Triple.Clauses.{AtExit}
 use Rattle.demands.proofs.Contract.{Gives, Says, answer}
 use Rattle.collector.specs.Answers.{said, lentOf}
-use Rattle.collector.specs.Step.{emptyCollection, After, pieceOf, collectStep}
+use Rattle.collector.specs.Step.{emptyCollection, After, collectStep}
+use Rattle.collector.specs.Lent.{LentAfter, lentStep}
 use Rattle.collector.proofs.empty_collection.Reads as empty_collection
 use Rattle.collector.proofs.collect.Reads as collect
 use Rattle.collector.proofs.collect.Statement as collect′
@@ -75,8 +76,8 @@ empty_collection-gives κs a x s h = h
 -- the same with both slices lent: walked by hand, so its plain fact is written out, and `collect_lent-says` is that it is the contract
 abbrev pub CollectLent : (κs : Lfts 3) → Args collect_lent.signature κs → Res collect_lent.signature κs → AtExit collect_lent.ended κs → Type 0
 CollectLent κs a x s =
-    (_≡_ {A = After} (record { answer = said (x .outcome .answer); held = x .outcome .held; slots = now (s .1 .0); join = now (x .join) })
-    (collectStep (a .0) (now (a .1 .0)) (now (a .1 .1 .0)) (now (a .1 .1 .1 .0)))) × (now (x .body) ≡ pieceOf (now (a .1 .1 .1 .0)))
+    _≡_ {A = LentAfter} (record { answer = said (x .outcome .answer); held = x .outcome .held; slots = now (s .1 .0); own = now (x .own); joined = now (x .joined); rest = now (x .rest) })
+    (lentStep (a .0) (now (a .1 .0)) (now (a .1 .1 .0)) (now (a .1 .1 .1 .0)))
 
 pub collect_lent-says : Says collect_lent.ended (λ M 𝓤 H. collect_lent.clauses 𝓤 H) CollectLent
 collect_lent-says M 𝓤 H A mem run κs a g x s = refl
@@ -85,9 +86,9 @@ pub collect_lent-met : {M : Type 1} → collect_lent′.statement M
 collect_lent-met = collect_lent″.met
 
 pub collect_lent-gives : (κs : Lfts 3)
-    → Gives {L = After × List ℕ} (λ x s. (record { answer = said (x .outcome .answer); held = x .outcome .held; slots = now (s .1 .0); join = now (x .join) }, now (x .body))) (CollectLent κs)
-    (λ a. (collectStep (a .0) (now (a .1 .0)) (now (a .1 .1 .0)) (now (a .1 .1 .1 .0)), pieceOf (now (a .1 .1 .1 .0))))
-collect_lent-gives κs a x s h = pair (h .0) (h .1)
+    → Gives {L = LentAfter} (λ x s. record { answer = said (x .outcome .answer); held = x .outcome .held; slots = now (s .1 .0); own = now (x .own); joined = now (x .joined); rest = now (x .rest) }) (CollectLent κs)
+    (λ a. lentStep (a .0) (now (a .1 .0)) (now (a .1 .1 .0)) (now (a .1 .1 .1 .0)))
+collect_lent-gives κs a x s h = h
 
 -- ---- choosing the tunnel for a client
 
