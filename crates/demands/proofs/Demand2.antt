@@ -55,9 +55,6 @@ use Rattle.modem.proofs.on_event as on_event
 use Rattle.modem.proofs.on_event.Statement as on_event′
 use Rattle.modem.proofs.on_event.Met as on_event″
 
-pair : {A B : Type 0} {a c : A} {b d : B} → a ≡ c → b ≡ d → _≡_ {A = A × B} (a, b) (c, d)
-pair {A} {B} e f = rw (e, f) refl
-
 -- ---- collecting pieces: the answer, the record and both buffers; the message lent with an answer
 
 pub collect-met : {M : Type 1} → collect′.statement M
@@ -73,21 +70,21 @@ message-gives κs a x s h = h
 pub empty_collection-gives : (κs : Lfts 0) → Gives answer (empty_collection.Post κs) (λ a. emptyCollection 0 0)
 empty_collection-gives κs a x s h = h
 
--- the same with both slices lent: walked by hand, so its plain fact is written out, and `collect_lent-says` is that it is the contract
+-- the same with the message lent as a part, and the rest of the join buffer: walked by hand, so its plain fact is written out, and
+-- `collect_lent-says` is that this is the contract
 abbrev pub CollectLent : (κs : Lfts 3) → Args collect_lent.signature κs → Res collect_lent.signature κs → AtExit collect_lent.ended κs → Type 0
 CollectLent κs a x s =
     _≡_ {A = LentAfter} (record { answer = said (x .outcome .answer); held = x .outcome .held; slots = now (s .1 .0); own = now (x .own); joined = now (x .joined); rest = now (x .rest) })
     (lentStep (a .0) (now (a .1 .0)) (now (a .1 .1 .0)) (now (a .1 .1 .1 .0)))
 
-pub collect_lent-says : Says collect_lent.ended (λ M 𝓤 H. collect_lent.clauses 𝓤 H) CollectLent
-collect_lent-says M 𝓤 H A mem run κs a g x s = refl
-
 pub collect_lent-met : {M : Type 1} → collect_lent′.statement M
 collect_lent-met = collect_lent″.met
 
-pub collect_lent-gives : (κs : Lfts 3)
-    → Gives {L = LentAfter} (λ x s. record { answer = said (x .outcome .answer); held = x .outcome .held; slots = now (s .1 .0); own = now (x .own); joined = now (x .joined); rest = now (x .rest) }) (CollectLent κs)
-    (λ a. lentStep (a .0) (now (a .1 .0)) (now (a .1 .1 .0)) (now (a .1 .1 .1 .0)))
+pub collect_lent-says : Says collect_lent.ended (λ M 𝓤 H. collect_lent.clauses 𝓤 H) CollectLent
+collect_lent-says M 𝓤 H A mem run κs a g x s = refl
+
+pub collect_lent-gives : (κs : Lfts 3) → Gives {L = LentAfter} (λ x s. record { answer = said (x .outcome .answer); held = x .outcome .held; slots = now (s .1 .0); own = now (x .own); joined = now (x .joined); rest = now (x .rest) })
+    (CollectLent κs) (λ a. lentStep (a .0) (now (a .1 .0)) (now (a .1 .1 .0)) (now (a .1 .1 .1 .0)))
 collect_lent-gives κs a x s h = h
 
 -- ---- choosing the tunnel for a client
