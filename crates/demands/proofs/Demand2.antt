@@ -12,7 +12,8 @@ use denote.Triple.Entry.{Args, Res}
 use denote.Triple.Clauses.{AtExit}
 use Rattle.demands.proofs.Contract.{Gives, Says, answer}
 use Rattle.collector.specs.Answers.{said, lentOf}
-use Rattle.collector.specs.Step.{emptyCollection, After, pieceOf, collectStep}
+use Rattle.collector.specs.Step.{emptyCollection, After, collectStep}
+use Rattle.collector.specs.Lent.{LentAfter, lentStep}
 use Rattle.collector.proofs.empty_collection.Reads as empty_collection
 use Rattle.collector.proofs.collect.Reads as collect
 use Rattle.collector.proofs.collect.Statement as collect′
@@ -21,6 +22,10 @@ use Rattle.collector.proofs.message.Reads as message
 use Rattle.collector.proofs.collect_lent as collect_lent
 use Rattle.collector.proofs.collect_lent.Statement as collect_lent′
 use Rattle.collector.proofs.collect_lent.Met as collect_lent″
+use Rattle.reader.specs.Read.{readTable}
+use Rattle.reader.proofs.read_table.Reads as read_table
+use Rattle.reader.proofs.read_table.Statement as read_table′
+use Rattle.reader.proofs.read_table.Met as read_table″
 use Rattle.choice.specs.Best.{isBetter}
 use Rattle.choice.specs.Choose.{choiceOf}
 use Rattle.choice.proofs.is_better.Reads as is_better
@@ -54,9 +59,6 @@ use Rattle.modem.proofs.on_event as on_event
 use Rattle.modem.proofs.on_event.Statement as on_event′
 use Rattle.modem.proofs.on_event.Met as on_event″
 
-pair : {A B : Type 0} {a c : A} {b d : B} → a ≡ c → b ≡ d → _≡_ {A = A × B} (a, b) (c, d)
-pair {A} {B} e f = rw (e, f) refl
-
 -- ---- collecting pieces: the answer, the record and both buffers; the message lent with an answer
 
 pub collect-met : {M : Type 1} → collect′.statement M
@@ -72,22 +74,30 @@ message-gives κs a x s h = h
 pub empty_collection-gives : (κs : Lfts 0) → Gives answer (empty_collection.Post κs) (λ a. emptyCollection 0 0)
 empty_collection-gives κs a x s h = h
 
--- the same with both slices lent: walked by hand, so its plain fact is written out, and `collect_lent-says` is that it is the contract
+-- the same with the message lent as a part, and the rest of the join buffer: walked by hand, so its plain fact is written out, and
+-- `collect_lent-says` is that this is the contract
 abbrev pub CollectLent : (κs : Lfts 3) → Args collect_lent.signature κs → Res collect_lent.signature κs → AtExit collect_lent.ended κs → Type 0
 CollectLent κs a x s =
-    (_≡_ {A = After} (record { answer = said (x .outcome .answer); held = x .outcome .held; slots = now (s .1 .0); join = now (x .join) })
-    (collectStep (a .0) (now (a .1 .0)) (now (a .1 .1 .0)) (now (a .1 .1 .1 .0)))) × (now (x .body) ≡ pieceOf (now (a .1 .1 .1 .0)))
-
-pub collect_lent-says : Says collect_lent.ended (λ M 𝓤 H. collect_lent.clauses 𝓤 H) CollectLent
-collect_lent-says M 𝓤 H A mem run κs a g x s = refl
+    _≡_ {A = LentAfter} (record { answer = said (x .outcome .answer); held = x .outcome .held; slots = now (s .1 .0); own = now (x .own); joined = now (x .joined); rest = now (x .rest) })
+    (lentStep (a .0) (now (a .1 .0)) (now (a .1 .1 .0)) (now (a .1 .1 .1 .0)))
 
 pub collect_lent-met : {M : Type 1} → collect_lent′.statement M
 collect_lent-met = collect_lent″.met
 
-pub collect_lent-gives : (κs : Lfts 3)
-    → Gives {L = After × List ℕ} (λ x s. (record { answer = said (x .outcome .answer); held = x .outcome .held; slots = now (s .1 .0); join = now (x .join) }, now (x .body))) (CollectLent κs)
-    (λ a. (collectStep (a .0) (now (a .1 .0)) (now (a .1 .1 .0)) (now (a .1 .1 .1 .0)), pieceOf (now (a .1 .1 .1 .0))))
-collect_lent-gives κs a x s h = pair (h .0) (h .1)
+pub collect_lent-says : Says collect_lent.ended (λ M 𝓤 H. collect_lent.clauses 𝓤 H) CollectLent
+collect_lent-says M 𝓤 H A mem run κs a g x s = refl
+
+pub collect_lent-gives : (κs : Lfts 3) → Gives {L = LentAfter} (λ x s. record { answer = said (x .outcome .answer); held = x .outcome .held; slots = now (s .1 .0); own = now (x .own); joined = now (x .joined); rest = now (x .rest) })
+    (CollectLent κs) (λ a. lentStep (a .0) (now (a .1 .0)) (now (a .1 .1 .0)) (now (a .1 .1 .1 .0)))
+collect_lent-gives κs a x s h = h
+
+-- ---- reading a table: the verdict and the table
+
+pub read_table-met : {M : Type 1} → read_table′.statement M
+read_table-met = read_table″.met
+
+pub read_table-gives : (κs : Lfts 1) → Gives answer (read_table.Post κs) (λ a. readTable (a .0) (now (a .1 .0)))
+read_table-gives κs a x s h = h
 
 -- ---- choosing the tunnel for a client
 
