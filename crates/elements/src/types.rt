@@ -245,9 +245,9 @@ pub fn find_type(parent: usize, kind: u8) -> Known
 }
 
 // Whether, of the places from `from` to before `after`, a must of the row `parent` has a count of 0.
-fn lacks_between(from: usize, after: usize, parent: usize, counts: [u8; 8]) -> bool
+fn lacks_between(from: usize, after: usize, parent: usize, counts: &[u8; 8]) -> bool
     requires { ⌜ (from ≤ after) × (after ≤ 26) ⌝ }
-    ensures { λ r. ⌜ r ≡ missingIn from (after - from) parent counts ⌝ }
+    ensures { λ r. ⌜ r ≡ missingIn from (after - from) parent (now (counts .entry)) ⌝ }
 {
     let mut i = from;
     while i < after {
@@ -264,8 +264,8 @@ fn lacks_between(from: usize, after: usize, parent: usize, counts: [u8; 8]) -> b
 }
 
 // Test 13: whether a must of the row `parent` has a count of 0. `counts` has a count for each of its lists.
-pub fn lacks_must(parent: usize, counts: [u8; 8]) -> bool
-    ensures { λ r. ⌜ r ≡ lacksMust parent counts ⌝ }
+pub fn lacks_must(parent: usize, counts: &[u8; 8]) -> bool
+    ensures { λ r. ⌜ r ≡ lacksMust parent (now (counts .entry)) ⌝ }
 {
     match parent {
         26 => lacks_between(0, 3, 26, counts),

@@ -5,6 +5,7 @@ use mathlib.Core.Path.{_≡_, refl, sym, _∙_}
 use native.Mathlib.Omega.{arith}
 use Rattle.elements.proofs.Laws.{headAt-fits}
 use Rattle.rows.specs.Rows.{testedAt}
+use Rattle.rows.proofs.Ways.{elementOf-list}
 use Rattle.rows.proofs.test_element.Statement.{statement}
 use Rattle.rows.proofs.test_element.Tie as tie
 
@@ -21,7 +22,7 @@ returns-2 c = simp (← c .before .before .before .read-head .ensures, c .before
 -- an element
 returns-3 : tie.Need-returns-3
 unfolding testedAt
-returns-3 c = simp (← c .before .before .before .before .before .read-head .ensures, c .before .before .before .len .given .1, ← c .before .element .ensures)
+returns-3 c = simp (← c .before .before .before .before .before .before .read-head .ensures, c .before .before .before .before .len .given .1, ← c .element .ensures)
 
 pub test-element-spec : {M : Type 1} → statement M
 test-element-spec =
@@ -31,9 +32,10 @@ test-element-spec =
     (λ c. search needs)
     (λ c. search needs)
     (λ c. search needs)
-    (λ c κs. let fits = headAt-fits _ _ _ (sym (c .before .before .before .read-head .ensures) ∙ c .before .len .given .1) in fits .1)
-    (λ c. let fits = headAt-fits _ _ _ (sym (c .before .before .before .before .before .read-head .ensures) ∙ c .before .before .before .len .given .1) in omega (arith, fits .1, c .before .before .before .before .before .before .before .fits))
-    (λ c. let fits = headAt-fits _ _ _ (sym (c .before .before .before .before .before .read-head .ensures) ∙ c .before .before .before .len .given .1) in omega (arith, fits .1, c .before .before .before .before .before .before .before .fits))
+    (λ c κs. let fits = headAt-fits _ _ _ (sym (c .before .before .before .before .before .read-head .ensures) ∙ c .before .before .before .len .given .1) in fits .1)
+    (λ c. elementOf-list _ _ _ _ _ (c .element .ensures))
+    (λ c. let fits = headAt-fits _ _ _ (sym (c .before .before .before .before .before .before .read-head .ensures) ∙ c .before .before .before .before .len .given .1) in omega (arith, fits .1, c .before .before .before .before .before .before .before .before .fits))
+    (λ c. let fits = headAt-fits _ _ _ (sym (c .before .before .before .before .before .before .read-head .ensures) ∙ c .before .before .before .before .len .given .1) in omega (arith, fits .1, c .before .before .before .before .before .before .before .before .fits))
     returns
     returns-2
     returns-3)
