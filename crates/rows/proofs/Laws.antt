@@ -15,7 +15,7 @@ use Prim.Native.Nat.{ℕ, zero, suc, _+_, _-_, _≤_, _<_}
 use native.Mathlib.Omega.{arith}
 use borrow.Author.Tests.{eq-eqb, ne-eqb, eqb-true, eqb-false, not-true, not-false, leb-false}
 use lib.ListN.{length, getD, set}
-use lib.Seq.{set-getD}
+use lib.Seq.{set-out}
 use lib.Dec.{eqb}
 use Rattle.elements.specs.Elements.{headAt}
 use Rattle.elements.specs.Places.{typeUnder, lacksMust}
@@ -72,7 +72,7 @@ module _ (msg : List ℕ) where
         own : Step
         own = ownTests msg known at len count
 
-        go : (a b c d : Bool) → (let s = cond a (stepped 0 at (known .list) count) (cond b own (cond c own (cond d (stepped (inside (known .place) .bad) (inside (known .place) .off) (known .list) count) own))) in Placed msg (s .bad) (s .off))
+        go : (a b c d : Bool) → (let s = cond a (stepped 0 at 8 0) (cond b own (cond c own (cond d (stepped (inside (known .place) .bad) (inside (known .place) .off) (known .list) count) own))) in Placed msg (s .bad) (s .off))
         go true b c d z = absurd (z refl)
         go false true c d z = own-placed known at len count h z
         go false false true d z = own-placed known at len count h z
@@ -157,8 +157,8 @@ module _ (inside : ℕ → Fault) (msg : List ℕ) (parent at len : ℕ) (t : Li
       own = ownTests msg known at len count
 
       go : (a b c d : Bool) → eqb (known .place) 26 ≡ a → not (eqb (own .bad) 0) ≡ b → not (eqb (inside (known .place) .bad) 0) ≡ d
-          → cond a (stepped 0 at (known .list) count) (cond b own (cond c own (cond d (stepped (inside (known .place) .bad) (inside (known .place) .off) (known .list) count) own))) .bad ≡ 0
-          → Passed msg known at len t × (cond a (stepped 0 at (known .list) count) (cond b own (cond c own (cond d (stepped (inside (known .place) .bad) (inside (known .place) .off) (known .list) count) own))) ≡ stepped 0 at (known .list) (count + 1))
+          → cond a (stepped 0 at 8 0) (cond b own (cond c own (cond d (stepped (inside (known .place) .bad) (inside (known .place) .off) (known .list) count) own))) .bad ≡ 0
+          → Passed msg known at len t × (cond a (stepped 0 at 8 0) (cond b own (cond c own (cond d (stepped (inside (known .place) .bad) (inside (known .place) .off) (known .list) count) own))) ≡ stepped 0 at (known .list) (count + 1))
       go true b c d p q r z = absurd (n (eqb-true _ _ p))
       go false true c d p q r z = absurd (eqb-false _ _ (not-true _ q) z)
       go false false true d p q r z = own-passed msg known at len t z
@@ -208,10 +208,9 @@ module _ (msg : List ℕ) (at : ℕ) (t : Tally) where
         (omega (arith, testedAt-head .next), omega (arith, testedAt-head .next, fits .1))
 
     module _ {known : Known} (e : known ≡ typeUnder 26 (getD msg at 0)) where
-      pub testedAt-skipped : known .place ≡ 26 → testedAt msg at t .tally ≡ t
+      pub testedAt-skipped : length (t .counts) ≤ 8 → known .place ≡ 26 → testedAt msg at t .tally ≡ t
       unfolding elementOf elementWith
-      testedAt-skipped p =
-          testedAt-head .tally ∙ simp (← e, eq-eqb _ _ p, set-getD)
+      testedAt-skipped l p = testedAt-head .tally ∙ simp (← e, eq-eqb _ _ p, set-out (t .counts) 8 0 l)
 
       module _ (n : known .place ≡ 26 → ⊥) where
         pub testedAt-passed : Passed msg known at (testedAt-head .len) (t .counts) × (testedAt msg at t .tally ≡ record { counts = set (t .counts) (known .list) (countOf known (t .counts) + 1) })

@@ -30,13 +30,13 @@ elementWith inside msg parent at len counts =
     let count = getD counts (known .list) 0 in
     let own = ownTests msg known at len count in
     let inner = inside (known .place) in
-    cond (eqb (known .place) 26) (stepped 0 at (known .list) count)
+    cond (eqb (known .place) 26) (stepped 0 at 8 0)
     (cond (not (eqb (own .bad) 0)) own
     (cond (not (isRow (known .length))) own
     (cond (not (eqb (inner .bad) 0)) (stepped (inner .bad) (inner .off) (known .list) count)
     own)))
 
--- the counts after an element
+-- the counts after an element; there is no list 8, so that an element that is not counted leaves them
 abbrev pub noted : List ℕ → Step → List ℕ
 noted counts s = set counts (s .list) (s .count)
 

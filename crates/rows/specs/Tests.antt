@@ -7,7 +7,7 @@
 --   noneCounted, emptyTally                     the counts of a row that begins
 --
 -- `count` is how many elements of the type's list stand before this one in its row, `counts` has that of each list of the row. A step
--- or a fault with bad 0 is fine. A step names a list and its count after the element, which is the count before where it is not counted.
+-- or a fault with bad 0 is fine. A step names the list that an element is counted in and the count after it; list 8 means none.
 -- Which lengths, values, rooms and musts a type has is said by the table of the crate elements.
 -- Tested by: the bench messages that end in 9, 11 and 13 (proofs/Bench.antt). Trusts: nothing.
 use Prim.Native.Nat.{ℕ, _+_, _%_}

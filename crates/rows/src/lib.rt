@@ -22,8 +22,11 @@ pub struct Tally {
     pub counts: [u8; 8],
 }
 
-// What an element comes to: 0, or a refusal number and its offset; and the count of one list of its row, which
-// is one more where the element is counted and else as it was.
+// The list of an element that is not counted: a row has eight lists at most.
+const NO_LIST: usize = 8;
+
+// What an element comes to: 0, or a refusal number and its offset; and the list that it is counted in, with the
+// count after it.
 pub struct Step {
     pub bad: u8,
     pub off: usize,
@@ -185,16 +188,16 @@ fn element(message: &[u8], parent: usize, at: usize, len: usize, counts: &[u8; 8
 {
     let known = elements::types::find_type(parent, message[at]);
     let place = known.place;
-    let list = known.list;
-    let count = counts[list];
     if place == elements::types::UNLISTED {
         return Step {
             bad: 0,
             off: at,
-            list,
-            count,
+            list: NO_LIST,
+            count: 0,
         };
     }
+    let list = known.list;
+    let count = counts[list];
     let own = own_tests(message, known, at, len, count);
     if own.bad != 0 {
         return own;
@@ -241,7 +244,9 @@ fn row_from(message: &[u8], parent: usize, own: usize, from: usize, end: usize) 
                     };
                 }
                 let list = step.list;
-                counts[list] = step.count;
+                if list < NO_LIST {
+                    counts[list] = step.count;
+                }
                 at = at + 2 + len;
             }
         }
@@ -267,16 +272,24 @@ pub fn test_element(message: &[u8], at: usize, tally: Tally) -> Tested
             tally,
         },
         Head::Value(len) => {
-            let mut counts = tally.counts;
+            let counts = tally.counts;
             let step = element(message, elements::types::TOP_LEVEL, at, len, &counts);
             let list = step.list;
-            counts[list] = step.count;
-            let after = Tally { counts };
+            if list < NO_LIST {
+                let mut after = tally;
+                after.counts[list] = step.count;
+                return Tested {
+                    bad: step.bad,
+                    off: step.off,
+                    next: at + 2 + len,
+                    tally: after,
+                };
+            }
             Tested {
                 bad: step.bad,
                 off: step.off,
                 next: at + 2 + len,
-                tally: after,
+                tally,
             }
         }
     }
