@@ -1,3 +1,4 @@
 pub mod Elements
 pub mod Types
 pub mod Places
+pub mod Packed

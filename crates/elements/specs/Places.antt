@@ -1,7 +1,7 @@
 -- Places: the known types numbered from 0, the types of one row together, and the look-up of a type in its row.
 --
 --   placed                    the entries of knownTypes in the order of their places
---   table                     the same as lines of numbers: the type, then the row it stands in, then what its entry says
+--   table                     the same as lines: the type, the row it stands in, what its entry says, its place
 --   placeIn from n parent t   the first of the n places from `from` with this row and type; 26 where there is none
 --   knownAt place             what the table says of the type at a place
 --   typeUnder parent t        what it says of the type t in the row `parent`; place 26 where t is not listed there
@@ -19,7 +19,6 @@ use Rattle.elements.specs.declared.types.Length.{Length}
 use Rattle.elements.specs.declared.types.Length.the-variants.{Bytes}
 use Rattle.elements.specs.declared.types.Values.{Values}
 use Rattle.elements.specs.declared.types.Values.the-variants.{Any}
-use Rattle.elements.specs.declared.types.Line.{Line}
 use Rattle.elements.specs.declared.types.Known.{Known}
 
 -- whether the second path is the first and one type more
@@ -55,24 +54,47 @@ unfoldable pub parentIn : List Entry → ℕ → List ℕ → ℕ
 parentIn [] i p = 26
 parentIn (e ∷ es) i p = cond (childOf (e .path) p) i (parentIn es (i + 1) p)
 
-abbrev pub lineOf : ℕ → ℕ → Length → Bool → Bool → Values → ℕ → ℕ → Line
-lineOf t p l n r v m k = record { 0 = t; 1 = p; 2 = l; 3 = n; 4 = r; 5 = v; 6 = m; 7 = k }
+-- a line of the table: a type, the row it stands in, what its entry says, and its place
+pub record Line : Type 0 where
+  pub kind : ℕ
+  pub parent : ℕ
+  pub size : Length
+  pub need : Bool
+  pub repeats : Bool
+  pub values : Values
+  pub room : ℕ
+  pub list : ℕ
+  pub place : ℕ
+
+abbrev pub line : ℕ → ℕ → Length → Bool → Bool → Values → ℕ → ℕ → ℕ → Line
+line t p s n r v m l k = record { kind = t; parent = p; size = s; need = n; repeats = r; values = v; room = m; list = l; place = k }
+
+-- the lines of the entries, numbered from k
+unfoldable pub linesFrom : ℕ → List Entry → List Line
+linesFrom k [] = []
+linesFrom k (e ∷ es) =
+    line (typeOf (e .path)) (parentIn placed 0 (e .path)) (e .size) (e .need) (e .repeats) (e .values) (e .room) (e .list) k ∷ linesFrom (k + 1) es
 
 unfoldable pub table : List Line
-table =
-    map (λ e. lineOf (typeOf (e .path)) (parentIn placed 0 (e .path)) (e .size) (e .need) (e .repeats) (e .values) (e .room) (e .list)) placed
+table = linesFrom 0 placed
 
--- the line at a place; past the table one of no type
+-- what stands past the table: no type
+abbrev pub noLine : Line
+noLine = line 0 0 (Bytes 0) false false Any 0 0 26
+
 unfoldable pub lineAt : ℕ → Line
-lineAt k = getD table k (lineOf 0 26 (Bytes 0) false false Any 0 0)
+lineAt k = getD table k noLine
 
 unfoldable pub placeIn : ℕ → ℕ → ℕ → ℕ → ℕ
 placeIn i zero p t = 26
-placeIn i (suc n) p t = cond (eqb (lineAt i .1) p && eqb (lineAt i .0) t) i (placeIn (i + 1) n p t)
+placeIn i (suc n) p t = cond (eqb (lineAt i .parent) p && eqb (lineAt i .kind) t) i (placeIn (i + 1) n p t)
+
+abbrev pub knownOfLine : Line → Known
+knownOfLine l =
+    record { place = l .place; length = l .size; repeats = l .repeats; values = l .values; room = l .room; list = l .list }
 
 unfoldable pub knownAt : ℕ → Known
-knownAt k =
-    record { place = k; length = lineAt k .2; repeats = lineAt k .4; values = lineAt k .5; room = lineAt k .6; list = lineAt k .7 }
+knownAt k = knownOfLine (lineAt k)
 
 unfoldable pub typeUnder : ℕ → ℕ → Known
 typeUnder p t = knownAt (placeIn 0 26 p t)
@@ -80,7 +102,7 @@ typeUnder p t = knownAt (placeIn 0 26 p t)
 unfoldable pub missingIn : ℕ → ℕ → ℕ → List ℕ → Bool
 missingIn i zero p counts = false
 missingIn i (suc n) p counts =
-    (eqb (lineAt i .1) p && (lineAt i .3 && eqb (getD counts (lineAt i .7) 0) 0)) || missingIn (i + 1) n p counts
+    (eqb (lineAt i .parent) p && (lineAt i .need && eqb (getD counts (lineAt i .list) 0) 0)) || missingIn (i + 1) n p counts
 
 unfoldable pub lacksMust : ℕ → List ℕ → Bool
 lacksMust p counts = missingIn 0 26 p counts

@@ -1,24 +1,24 @@
--- What the rule says on each way through the code of `element` and `row_from`: one law for each return and for the turn of the loop.
+-- What the rule says on each way through the code of `element`, `row_from` and `test_element`: one law for each return and for the turn of the loop.
 -- Trusts: nothing.
 use mathlib.Core.Path.{_≡_, refl, sym, ap, _∙_}
 use mathlib.Core.Bool.{Bool, true, false}
 use mathlib.Core.List.{List}
 use Prim.Native.Nat.{ℕ, _+_}
 use borrow.Author.Tests.{eq-eqb, ne-eqb}
-use lib.ListN.{getD}
+use lib.ListN.{length, getD}
 use Rattle.elements.specs.Elements.{headAt}
 use Rattle.elements.specs.Places.{typeUnder}
 use Rattle.elements.specs.declared.Head.{Head}
 use Rattle.elements.specs.declared.Head.the-variants.{End, Refused, Value}
 use Rattle.elements.specs.declared.types.Known.{Known}
-use Rattle.rows.specs.Tests.{refused, fine, ownTests, isRow, rowEnd, emptyTally}
-use Rattle.rows.specs.Rows.{elementWith, elementOf, rowStep, rowOf}
+use Rattle.rows.specs.Tests.{stepped, ownTests, isRow, rowEnd, noneCounted}
+use Rattle.rows.specs.Rows.{elementWith, elementOf, noted, rowStep, rowOf, testedAt}
 use Rattle.rows.proofs.Rule.{row-rule}
 use Rattle.rows.specs.declared.Tally.{Tally}
 use Rattle.rows.specs.declared.Step.{Step}
 use Rattle.rows.specs.declared.Fault.{Fault}
 
-module _ (msg : List ℕ) (parent own at end : ℕ) (t : Tally) {h : Head} (e : h ≡ headAt msg at end) where
+module _ (msg : List ℕ) (parent own at end : ℕ) (t : List ℕ) {h : Head} (e : h ≡ headAt msg at end) where
   pub row-ends : {f : Fault} → h ≡ End → f ≡ rowEnd parent own t → f ≡ rowOf msg parent own at end t
   unfolding rowStep
   row-ends b x = sym (row-rule msg parent own at end t ∙ simp (← e, b, ← x))
@@ -32,33 +32,44 @@ module _ (msg : List ℕ) (parent own at end : ℕ) (t : Tally) {h : Head} (e : 
     unfolding rowStep elementOf
     row-stops z = sym (row-rule msg parent own at end t ∙ simp (← e, b, ← x, ne-eqb _ _ z))
 
-    pub row-goes : s .bad ≡ 0 → rowOf msg parent own (at + 2 + len) end (s .tally) ≡ rowOf msg parent own at end t
+    pub row-goes : {u : List ℕ} → s .bad ≡ 0 → u ≡ noted t s → rowOf msg parent own (at + 2 + len) end u ≡ rowOf msg parent own at end t
     unfolding rowStep elementOf
-    row-goes z = sym (row-rule msg parent own at end t ∙ simp (← e, b, ← x, eq-eqb _ _ z))
+    row-goes z q = sym (row-rule msg parent own at end t ∙ simp (← e, b, ← x, eq-eqb _ _ z, ← q))
 
-module _ (msg : List ℕ) (parent at len : ℕ) (t : Tally) {known : Known} (e : known ≡ typeUnder parent (getD msg at 0)) where
-  pub elem-unlisted : known .place ≡ 26 → fine at t ≡ elementOf msg parent at len t
+module _ (msg : List ℕ) (parent at len : ℕ) (t : List ℕ) {known : Known} (e : known ≡ typeUnder parent (getD msg at 0)) where
+  pub elem-unlisted : known .place ≡ 26 → stepped 0 at 8 0 ≡ elementOf msg parent at len t
   unfolding elementOf elementWith
   elem-unlisted z = simp (← e, eq-eqb _ _ z)
 
-  module _ {own : Step} (n : known .place ≡ 26 → ⊥) (o : own ≡ ownTests msg known at len t) where
+  module _ {count : ℕ} {own : Step} (n : known .place ≡ 26 → ⊥) (q : count ≡ getD t (known .list) 0) (o : own ≡ ownTests msg known at len count) where
     pub elem-own : (own .bad ≡ 0 → ⊥) → own ≡ elementOf msg parent at len t
     unfolding elementOf elementWith
-    elem-own b = simp (← e, ne-eqb _ _ n, ← o, ne-eqb _ _ b)
+    elem-own b = simp (← e, ← q, ne-eqb _ _ n, ← o, ne-eqb _ _ b)
 
     module _ {l : Bool} (b : own .bad ≡ 0) (i : l ≡ isRow (known .length)) where
       pub elem-leaf : l ≡ false → own ≡ elementOf msg parent at len t
       unfolding elementOf elementWith
-      elem-leaf f = simp (← e, ne-eqb _ _ n, ← o, eq-eqb _ _ b, ← i, f)
+      elem-leaf f = simp (← e, ← q, ne-eqb _ _ n, ← o, eq-eqb _ _ b, ← i, f)
 
-      module _ {start : Tally} {inner : Fault} (q : l ≡ true) (f : start ≡ emptyTally) (x : inner ≡ rowOf msg (known .place) at (at + 2) (at + 2 + len) start) where
-        inner-fresh : inner ≡ rowOf msg (known .place) at (at + 2) (at + 2 + len) emptyTally
-        inner-fresh = x ∙ ap (λ (u : Tally). rowOf msg (known .place) at (at + 2) (at + 2 + len) u) f
-
-        pub elem-inner : (inner .bad ≡ 0 → ⊥) → refused (inner .bad) (inner .off) t ≡ elementOf msg parent at len t
+      module _ {inner : Fault} (y : l ≡ true) (x : inner ≡ rowOf msg (known .place) at (at + 2) (at + 2 + len) noneCounted) where
+        pub elem-inner : (inner .bad ≡ 0 → ⊥) → stepped (inner .bad) (inner .off) (known .list) count ≡ elementOf msg parent at len t
         unfolding elementOf elementWith
-        elem-inner z = simp (← e, ne-eqb _ _ n, ← o, eq-eqb _ _ b, ← i, q, ← inner-fresh, ne-eqb _ _ z)
+        elem-inner z = simp (← e, ← q, ne-eqb _ _ n, ← o, eq-eqb _ _ b, ← i, y, ← x, ne-eqb _ _ z)
 
         pub elem-row : inner .bad ≡ 0 → own ≡ elementOf msg parent at len t
         unfolding elementOf elementWith
-        elem-row z = simp (← e, ne-eqb _ _ n, ← o, eq-eqb _ _ b, ← i, q, ← inner-fresh, eq-eqb _ _ z)
+        elem-row z = simp (← e, ← q, ne-eqb _ _ n, ← o, eq-eqb _ _ b, ← i, y, ← x, eq-eqb _ _ z)
+
+module _ (msg : List ℕ) (at : ℕ) (t : Tally) {h : Head} (e : h ≡ headAt msg at (length msg)) where
+  pub top-ends : h ≡ End → record { bad = 0; off = at; next = at; tally = t } ≡ testedAt msg at t
+  unfolding testedAt
+  top-ends b = simp (← e, b)
+
+  pub top-bad : {n : ℕ} → h ≡ Refused n → record { bad = n; off = at; next = at; tally = t } ≡ testedAt msg at t
+  unfolding testedAt
+  top-bad b = simp (← e, b)
+
+  pub top-goes : {len : ℕ} {s : Step} {u : Tally} → h ≡ Value len → s ≡ elementOf msg 26 at len (t .counts) → u .counts ≡ noted (t .counts) s
+      → record { bad = s .bad; off = s .off; next = at + 2 + len; tally = u } ≡ testedAt msg at t
+  unfolding testedAt
+  top-goes b x q = simp (← e, b, ← x, ← q)

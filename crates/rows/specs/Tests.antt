@@ -1,18 +1,19 @@
 -- Tests: what one element is tested for besides its head, and a row at its end (document 01, refusals 9 to 13).
 --
 --   secondCopy, wrongLength, badValue, isFull   refusals 9, 10, 11 and 12, each by itself
---   ownTests msg known at len tally             the first of them, at the type byte; else the tally with one more in the type's list
+--   ownTests msg known at len count             the first of them, at the type byte; else 0, and one more in the type's list
 --   isRow allowed                               whether the value is a row of elements
---   rowEnd parent own tally                     refusal 13, at the row's own type byte, where a must of the row has a count of 0
---   emptyTally                                  the tally of a row that begins
+--   rowEnd parent own counts                    refusal 13, at the row's own type byte, where a must of the row has a count of 0
+--   noneCounted, emptyTally                     the counts of a row that begins
 --
--- `count` is how many elements of the type's list stand before this one in its row. A step or a fault with bad 0 is fine.
+-- `count` is how many elements of the type's list stand before this one in its row, `counts` has that of each list of the row. A step
+-- or a fault with bad 0 is fine. A step names the list that an element is counted in and the count after it; list 8 means none.
 -- Which lengths, values, rooms and musts a type has is said by the table of the crate elements.
 -- Tested by: the bench messages that end in 9, 11 and 13 (proofs/Bench.antt). Trusts: nothing.
 use Prim.Native.Nat.{ℕ, _+_, _%_}
 use mathlib.Core.Bool.{Bool, true, false, cond, not, _&&_, _||_}
 use mathlib.Core.List.{List}
-use lib.ListN.{getD, set, replicate}
+use lib.ListN.{replicate}
 use lib.Dec.{eqb, leb, ltb}
 use Rattle.wire.specs.Bytes.{numberAt}
 use Rattle.elements.specs.Places.{lacksMust}
@@ -25,11 +26,9 @@ use Rattle.rows.specs.declared.Tally.{Tally}
 use Rattle.rows.specs.declared.Step.{Step}
 use Rattle.rows.specs.declared.Fault.{Fault}
 
-abbrev pub refused : ℕ → ℕ → Tally → Step
-refused n at t = record { bad = n; off = at; tally = t }
-
-abbrev pub fine : ℕ → Tally → Step
-fine at t = record { bad = 0; off = at; tally = t }
+-- what an element comes to: a refusal number, or 0; where; and the count of one list of its row
+abbrev pub stepped : ℕ → ℕ → ℕ → ℕ → Step
+stepped bad at list count = record { bad = bad; off = at; list = list; count = count }
 
 -- 9: a second copy of a type not marked repeats
 unfoldable pub secondCopy : Bool → ℕ → Bool
@@ -56,19 +55,13 @@ badValue msg Channel at len = noChannel (numberAt 4 msg (at + 2))
 unfoldable pub isFull : Bool → ℕ → ℕ → ℕ → Bool
 isFull repeats room count len = cond repeats (leb room count) (ltb room len)
 
-abbrev pub countOf : Known → Tally → ℕ
-countOf known t = getD (t .counts) (known .list) 0
-
-abbrev pub counted : Known → Tally → Tally
-counted known t = record { counts = set (t .counts) (known .list) (countOf known t + 1) }
-
-unfoldable pub ownTests : List ℕ → Known → ℕ → ℕ → Tally → Step
-ownTests msg known at len t =
-    cond (secondCopy (known .repeats) (countOf known t)) (refused 9 at t)
-    (cond (wrongLength (known .length) len) (refused 10 at t)
-    (cond (badValue msg (known .values) at len) (refused 11 at t)
-    (cond (isFull (known .repeats) (known .room) (countOf known t) len) (refused 12 at t)
-    (fine at (counted known t)))))
+unfoldable pub ownTests : List ℕ → Known → ℕ → ℕ → ℕ → Step
+ownTests msg known at len count =
+    cond (secondCopy (known .repeats) count) (stepped 9 at (known .list) count)
+    (cond (wrongLength (known .length) len) (stepped 10 at (known .list) count)
+    (cond (badValue msg (known .values) at len) (stepped 11 at (known .list) count)
+    (cond (isFull (known .repeats) (known .room) count len) (stepped 12 at (known .list) count)
+    (stepped 0 at (known .list) (count + 1)))))
 
 unfoldable pub isRow : Length → Bool
 isRow Row = true
@@ -77,8 +70,11 @@ isRow (NoneOr n) = false
 isRow (OrMore n) = false
 
 -- 13: the row ends without a must
-unfoldable pub rowEnd : ℕ → ℕ → Tally → Fault
-rowEnd parent own t = cond (lacksMust parent (t .counts)) (record { bad = 13; off = own }) (record { bad = 0; off = own })
+unfoldable pub rowEnd : ℕ → ℕ → List ℕ → Fault
+rowEnd parent own counts = cond (lacksMust parent counts) (record { bad = 13; off = own }) (record { bad = 0; off = own })
+
+abbrev pub noneCounted : List ℕ
+noneCounted = replicate 8 0
 
 abbrev pub emptyTally : Tally
-emptyTally = record { counts = replicate 8 0 }
+emptyTally = record { counts = noneCounted }

@@ -14,7 +14,7 @@ use elements::types::Values;
 ghost use mathlib.Core.Path.{_≡_};
 ghost use Prim.Native.Nat.{_+_, _≤_, _<_};
 ghost use lib.ListN.{length};
-ghost use Rattle.rows.specs.Tests.{secondCopy, wrongLength, noChannel, badValue, isFull, ownTests, isRow, rowEnd, emptyTally};
+ghost use Rattle.rows.specs.Tests.{secondCopy, wrongLength, noChannel, badValue, isFull, ownTests, isRow, rowEnd, noneCounted, emptyTally};
 ghost use Rattle.rows.specs.Rows.{elementOf, rowOf, testedAt};
 
 // How many elements of each list stand before this one in its row. A type's list has a number in its row.
@@ -22,11 +22,16 @@ pub struct Tally {
     pub counts: [u8; 8],
 }
 
-// What an element comes to: 0 and the tally after it, or a refusal number, its offset and the tally before.
+// The list of an element that is not counted: a row has eight lists at most.
+const NO_LIST: usize = 8;
+
+// What an element comes to: 0, or a refusal number and its offset; and the list that it is counted in, with the
+// count after it.
 pub struct Step {
     pub bad: u8,
     pub off: usize,
-    pub tally: Tally,
+    pub list: usize,
+    pub count: u8,
 }
 
 // What a row comes to: 0, or a refusal number and its offset.
@@ -98,18 +103,18 @@ fn is_full(repeats: bool, room: u8, count: u8, len: usize) -> bool
     }
 }
 
-// Tests 9 to 12 of an element of a known type, and its tally.
-fn own_tests(message: &[u8], known: Known, at: usize, len: usize, tally: Tally) -> Step
-    requires { ⌜ (known .list < 8) × (at + 2 + len ≤ length (now message)) ⌝ }
-    ensures { λ r. ⌜ r ≡ ownTests (now (message .entry)) known at len tally ⌝ }
+// Tests 9 to 12 of an element of a known type, of whose list `count` elements stand before it, and its count.
+fn own_tests(message: &[u8], known: Known, at: usize, len: usize, count: u8) -> Step
+    requires { ⌜ at + 2 + len ≤ length (now message) ⌝ }
+    ensures { λ r. ⌜ r ≡ ownTests (now (message .entry)) known at len count ⌝ }
 {
     let list = known.list;
-    let count = tally.counts[list];
     if second_copy(known.repeats, count) {
         return Step {
             bad: 9,
             off: at,
-            tally,
+            list,
+            count,
         };
     }
     let lengths = known.length;
@@ -117,7 +122,8 @@ fn own_tests(message: &[u8], known: Known, at: usize, len: usize, tally: Tally) 
         return Step {
             bad: 10,
             off: at,
-            tally,
+            list,
+            count,
         };
     }
     let values = known.values;
@@ -125,22 +131,23 @@ fn own_tests(message: &[u8], known: Known, at: usize, len: usize, tally: Tally) 
         return Step {
             bad: 11,
             off: at,
-            tally,
+            list,
+            count,
         };
     }
     if is_full(known.repeats, known.room, count, len) {
         return Step {
             bad: 12,
             off: at,
-            tally,
+            list,
+            count,
         };
     }
-    let mut after = tally;
-    after.counts[list] = count + 1;
     Step {
         bad: 0,
         off: at,
-        tally: after,
+        list,
+        count: count + 1,
     }
 }
 
@@ -164,21 +171,20 @@ pub fn empty_tally() -> Tally
 }
 
 // The end of a row: test 13, at the row's own type byte.
-fn row_end(parent: usize, own: usize, tally: Tally) -> Fault
-    ensures { λ r. ⌜ r ≡ rowEnd parent own tally ⌝ }
+fn row_end(parent: usize, own: usize, counts: &[u8; 8]) -> Fault
+    ensures { λ r. ⌜ r ≡ rowEnd parent own (now (counts .entry)) ⌝ }
 {
-    let counts = tally.counts;
     if elements::types::lacks_must(parent, counts) {
         return Fault { bad: 13, off: own };
     }
     Fault { bad: 0, off: own }
 }
 
-// The element reader. The element at `at` in the row `parent`, with a value of `len` bytes: its own tests,
-// and where its value is a row, that row.
-fn element(message: &[u8], parent: usize, at: usize, len: usize, tally: Tally) -> Step
+// The element reader. The element at `at` in the row `parent`, with a value of `len` bytes, after those that
+// `counts` counts: its own tests, and where its value is a row, that row.
+fn element(message: &[u8], parent: usize, at: usize, len: usize, counts: &[u8; 8]) -> Step
     requires { ⌜ at + 2 + len ≤ length (now message) ⌝ }
-    ensures { λ r. ⌜ r ≡ elementOf (now (message .entry)) parent at len tally ⌝ }
+    ensures { λ r. ⌜ r ≡ elementOf (now (message .entry)) parent at len (now (counts .entry)) ⌝ }
 {
     let known = elements::types::find_type(parent, message[at]);
     let place = known.place;
@@ -186,10 +192,13 @@ fn element(message: &[u8], parent: usize, at: usize, len: usize, tally: Tally) -
         return Step {
             bad: 0,
             off: at,
-            tally,
+            list: NO_LIST,
+            count: 0,
         };
     }
-    let own = own_tests(message, known, at, len, tally);
+    let list = known.list;
+    let count = counts[list];
+    let own = own_tests(message, known, at, len, count);
     if own.bad != 0 {
         return own;
     }
@@ -197,34 +206,28 @@ fn element(message: &[u8], parent: usize, at: usize, len: usize, tally: Tally) -
     if !is_row(lengths) {
         return own;
     }
-    let inner = row_from(message, place, at, at + 2, at + 2 + len, empty_tally());
+    let inner = row_from(message, place, at, at + 2, at + 2 + len);
     if inner.bad != 0 {
         return Step {
             bad: inner.bad,
             off: inner.off,
-            tally,
+            list,
+            count,
         };
     }
     own
 }
 
 // The row reader. The row `parent`, whose own type byte is at `own`, from `from` to `end`.
-fn row_from(
-    message: &[u8],
-    parent: usize,
-    own: usize,
-    from: usize,
-    end: usize,
-    tally: Tally,
-) -> Fault
-    ensures { λ r. ⌜ r ≡ rowOf (now (message .entry)) parent own from end tally ⌝ }
+fn row_from(message: &[u8], parent: usize, own: usize, from: usize, end: usize) -> Fault
+    ensures { λ r. ⌜ r ≡ rowOf (now (message .entry)) parent own from end noneCounted ⌝ }
 {
     let mut at = from;
-    let mut counted = tally;
+    let mut counts = [0u8; 8];
     loop {
         match elements::read_head(message, at, end) {
             Head::End => {
-                return row_end(parent, own, counted);
+                return row_end(parent, own, &counts);
             }
             Head::Refused(number) => {
                 return Fault {
@@ -233,14 +236,17 @@ fn row_from(
                 };
             }
             Head::Value(len) => {
-                let step = element(message, parent, at, len, counted);
+                let step = element(message, parent, at, len, &counts);
                 if step.bad != 0 {
                     return Fault {
                         bad: step.bad,
                         off: step.off,
                     };
                 }
-                counted = step.tally;
+                let list = step.list;
+                if list < NO_LIST {
+                    counts[list] = step.count;
+                }
                 at = at + 2 + len;
             }
         }
@@ -266,13 +272,24 @@ pub fn test_element(message: &[u8], at: usize, tally: Tally) -> Tested
             tally,
         },
         Head::Value(len) => {
-            let step = element(message, elements::types::TOP_LEVEL, at, len, tally);
-            let after = step.tally;
+            let counts = tally.counts;
+            let step = element(message, elements::types::TOP_LEVEL, at, len, &counts);
+            let list = step.list;
+            if list < NO_LIST {
+                let mut after = tally;
+                after.counts[list] = step.count;
+                return Tested {
+                    bad: step.bad,
+                    off: step.off,
+                    next: at + 2 + len,
+                    tally: after,
+                };
+            }
             Tested {
                 bad: step.bad,
                 off: step.off,
                 next: at + 2 + len,
-                tally: after,
+                tally,
             }
         }
     }

@@ -37,7 +37,6 @@ pub own-tests-spec : {M : Type 1} → statement M
 own-tests-spec =
     tie.close
     (tie.spec
-    (λ c. search needs)
     (λ c κs. search needs)
     returns
     (λ c κs. search needs)
@@ -47,5 +46,4 @@ own-tests-spec =
     (λ c κs. search needs)
     returns-4
     (λ c. let fits = count-fits _ _ _ _ (sym (c .before .before .before .before .before .before .before .second-copy .ensures) ∙ c .before .before .before .before .before .before .if1 .left) (sym (c .before .is-full .ensures) ∙ c .if4 .left) (omega arith) in search needs)
-    (λ c. search needs)
     returns-5)
