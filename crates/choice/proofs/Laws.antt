@@ -1,5 +1,6 @@
 -- Laws of `choiceOf` (specs/Choose.antt).
 --
+--   getD-there        the element at a place that is there does not depend on what stands beyond the end
 --   taken-at          a place of the first n elements is one of all, with the same element, whatever stands beyond an end
 --   ruleAt-in, ruleAt-out   the rule at a place that is used; at one that is not
 --   choiceOf-there    a chosen place is one of the table's
@@ -23,7 +24,7 @@ use Rattle.choice.specs.declared.Choice.{Choice}
 use Rattle.choice.specs.declared.Choice.the-variants.{Chosen, Refused}
 use Rattle.choice.specs.Choose.{chosenPlace, choiceOf, ruleAt}
 
-getD-there : {A : Type 0} (xs : List A) (k : ℕ) (d e : A) → k < length xs → getD xs k d ≡ getD xs k e
+pub getD-there : {A : Type 0} (xs : List A) (k : ℕ) (d e : A) → k < length xs → getD xs k d ≡ getD xs k e
 getD-there [] k d e h = absurd (omega arith)
 getD-there (x ∷ xs) zero d e h = refl
 getD-there (x ∷ xs) (suc k) d e h = getD-there xs k d e (omega arith)

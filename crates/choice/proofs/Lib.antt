@@ -5,3 +5,8 @@ pub mod Order
 pub mod Places
 pub mod Scan
 pub mod Laws
+pub mod Chosen
+pub mod Fits
+pub mod Orderless
+pub mod Bench
+pub mod Controls

@@ -4,12 +4,14 @@
 --   firstPlace-at, firstPlace-none   the first that passes stands behind members that do not; no member passes
 --   bestPlace-at                  x passes, comes before each passing member in front of it, and none behind it comes before x
 --   bestPlace-none                no member passes
+--   firstPlace-le, bestPlace-le   a place, or the length
 -- Trusts: nothing.
 use mathlib.Core.Path.{_≡_, refl, sym, ap, _∙_}
 use mathlib.Core.Bool.{Bool, true, false, cond, not, _&&_, _||_}
 use mathlib.Core.List.{List, [], _∷_, _++_, List·Memᴰ, List·Memᴰ·head, List·Memᴰ·tail, List·Memᴰ·append-cases, List·Memᴰ·cases-cons, List·Memᴰ·not-nil, Memᴰ·append-right}
 use mathlib.Core.Logic.{_⊎_, inl, inr, ⊎-elim}
 use Prim.Native.Nat.{ℕ, suc, _≤_, _<_}
+use native.Mathlib.Nat.{le-refl}
 use native.Mathlib.Omega.{arith}
 use lib.ListN.{length}
 use Rattle.choice.specs.Best.{comesBefore, anyOf, firstPlace, isBest, bestPlace}
@@ -48,9 +50,22 @@ module _ {A : Type 0} where
   firstPlace-none ok [] h = refl
   firstPlace-none ok (x ∷ xs) h = rw (h x (List·Memᴰ·head refl)) (ap suc (firstPlace-none ok xs (λ y t. h y (List·Memᴰ·tail t))))
 
+  pub firstPlace-le : (ok : A → Bool) (xs : List A) → firstPlace ok xs ≤ length xs
+  unfolding firstPlace
+  firstPlace-le ok [] = le-refl 0
+  firstPlace-le ok (x ∷ xs) = go (ok x) (firstPlace-le ok xs)
+    where
+      go : (b : Bool) → firstPlace ok xs ≤ length xs → cond b 0 (suc (firstPlace ok xs)) ≤ suc (length xs)
+      go true h = omega arith
+      go false h = omega arith
+
 module _ {A : Type 0} (pr nu : A → ℕ) (ok : A → Bool) where
   abbrev before : A → A → Bool
   before x y = comesBefore (pr x) (nu x) (pr y) (nu y)
+
+  pub bestPlace-le : (xs : List A) → bestPlace pr nu ok xs ≤ length xs
+  unfolding bestPlace
+  bestPlace-le xs = firstPlace-le (isBest pr nu ok xs) xs
 
   pub bestPlace-none : (xs : List A) → ((y : A) → List·Memᴰ y xs → ok y ≡ false) → bestPlace pr nu ok xs ≡ length xs
   unfolding bestPlace isBest

@@ -4,6 +4,7 @@
 --   scan-more, scan-end     one more turn of a loop over the first n places of a list; no place is left
 --   Leads xs b              what is known of the best of xs: none passes, or it is the first of the best
 --   scan-none, scan-some    what the walk over a whole list of at most 32 places found is `bestPlace`
+--   bestPlace-nobody        where there is no best place, nobody passes
 -- Trusts: nothing.
 use mathlib.Core.Path.{_≡_, refl, sym, ap, _∙_}
 use mathlib.Core.Bool.{Bool, true, false, cond, and-false}
@@ -125,3 +126,13 @@ module _ {A : Type 0} (pr nu : A → ℕ) (ok : A → Bool) where
           let at : scan nothing 0 xs .place ≡ length pre = ap (λ (b : Best). b .place) eb in
           let long : length xs ≡ length pre + suc (length post) = ap length exs ∙ length-append pre (x ∷ post) in
           (rw exs (bestPlace-at pr nu ok pre x post ex front behind) ∙ sym at, omega arith)
+
+  pub bestPlace-nobody : (xs : List A) → length xs ≤ 32 → bestPlace pr nu ok xs ≡ length xs → (y : A) → List·Memᴰ y xs → ok y ≡ false
+  bestPlace-nobody xs l e = go (walked xs l)
+    where
+      go : Leads xs (scan nothing 0 xs) → (y : A) → List·Memᴰ y xs → ok y ≡ false
+      go (nobody p h) = h
+      go (leader pre x post exs eb ex front behind) =
+          let found : bestPlace pr nu ok xs ≡ length pre = rw exs (bestPlace-at pr nu ok pre x post ex front behind) in
+          let long : length xs ≡ length pre + suc (length post) = ap length exs ∙ length-append pre (x ∷ post) in
+          absurd (omega arith)

@@ -5,6 +5,7 @@
 --   admitsUcid rule u       the rule has no UCID list, or the UCID is known and in it
 --   fitsClient c u rule     the rule lists the client and admits the UCID
 --   chosenPlace c u rules   the place of the chosen rule; the length where none fits
+--   chosenRule c u rules    the rule there
 --   choiceOf t c u          the answer: Chosen with the place, or Refused 17
 --   refusalOf, placeOf      what an answer says: the paper's refusal number, 0 for none; the place, 0 for none
 --   FitsBest t c u k        the same choice said without a computation
@@ -46,6 +47,10 @@ fitsClient c u rule = listsClient rule c && admitsUcid rule u
 
 unfoldable pub chosenPlace : Client → Ucid → List Rule → ℕ
 chosenPlace c u rules = bestPlace (λ rule. rule .priority) (λ rule. rule .number) (fitsClient c u) rules
+
+-- the chosen rule itself; an unused one where none fits
+unfoldable pub chosenRule : Client → Ucid → List Rule → Rule
+chosenRule c u rules = getD rules (chosenPlace c u rules) emptyRule
 
 unfoldable pub choiceOf : Table → Client → Ucid → Choice
 choiceOf t c u =

@@ -1,6 +1,7 @@
 -- An entry matches where its classifier does (specs/Match.antt, specs/Entry.antt).
 --
---   matchesEntry-ipv4, matchesEntry-not    of an IPv4 frame the packet decides; of another, nothing matches
+--   packetOf-ipv4                          a packet says whether the frame is one of IPv4
+--   matchesEntry-ipv4, matchesEntry-not    of an IPv4 packet the parts decide; of another, nothing matches
 --   matchesFrame-not                       the same of a classifier
 --   matchesEntry-of                        the entry of a classifier matches where the classifier does
 -- Trusts: nothing.
@@ -12,21 +13,40 @@ use lib.Bits.{bitAnd, and-zero-r}
 use lib.Dec.{eqb, leb}
 use Rattle.table.specs.declared.Classifier.{Classifier}
 use Rattle.table.specs.Table.{isPresent}
+use Rattle.tunnel.specs.declared.Packet.{Packet}
 use Rattle.tunnel.specs.declared.Entry.{Entry}
 use Rattle.tunnel.specs.Match.{isIpv4, hasPort, sourceAt, destinationAt, portAt, portWithin, maskOf, startOf, endOf, fitsSource, fitsPort, matchesFrame}
-use Rattle.tunnel.specs.Entry.{packetOf, portsOf, entryOf, fitsPacket, matchesEntry}
+use Rattle.tunnel.specs.Entry.{packetOf, entryOf, fitsPacket, matchesEntry}
 
-pub matchesEntry-ipv4 : (frame : List ℕ) (e : Entry) → isIpv4 frame ≡ true → matchesEntry frame e ≡ fitsPacket (packetOf frame) e
-unfolding matchesEntry
-matchesEntry-ipv4 frame e h = rw h
+-- the packet of an IPv4 frame, and of any other
+abbrev full : List ℕ → Packet
+full frame = record { ipv4 = true; ported = hasPort frame; port = cond (hasPort frame) (portAt frame) 0; destination = destinationAt frame; source = sourceAt frame }
 
-pub matchesEntry-not : (frame : List ℕ) (e : Entry) → isIpv4 frame ≡ false → matchesEntry frame e ≡ false
-unfolding matchesEntry
-matchesEntry-not frame e h = rw h
+abbrev none : Packet
+none = record { ipv4 = false; ported = false; port = 0; destination = 0; source = 0 }
 
-pub matchesFrame-not : (frame : List ℕ) (cl : Classifier) → isIpv4 frame ≡ false → matchesFrame frame cl ≡ false
-unfolding matchesFrame
-matchesFrame-not frame cl h = rw h
+pub packetOf-ipv4 : (frame : List ℕ) → packetOf frame .ipv4 ≡ isIpv4 frame
+unfolding packetOf
+packetOf-ipv4 frame = go (isIpv4 frame)
+  where
+    go : (b : Bool) → cond b (full frame) none .ipv4 ≡ b
+    go true = refl
+    go false = refl
+
+module _ (frame : List ℕ) (p : Packet) (e : p ≡ packetOf frame) where
+  pub matchesEntry-ipv4 : p .ipv4 ≡ true → (en : Entry) → matchesEntry frame en ≡ fitsPacket p en
+  unfolding matchesEntry
+  matchesEntry-ipv4 h en = rw (← e, h)
+
+  pub matchesEntry-not : p .ipv4 ≡ false → (en : Entry) → matchesEntry frame en ≡ false
+  unfolding matchesEntry
+  matchesEntry-not h en = rw (← e, h)
+
+  pub matchesFrame-not : p .ipv4 ≡ false → (cl : Classifier) → matchesFrame frame cl ≡ false
+  unfolding matchesFrame
+  matchesFrame-not h cl =
+      let no : isIpv4 frame ≡ false = sym (packetOf-ipv4 frame) ∙ ap (λ (q : Packet). q .ipv4) (sym e) ∙ h in
+      rw no
 
 source-of : (frame : List ℕ) (cl : Classifier) → eqb (bitAnd (sourceAt frame) (entryOf cl .mask)) (entryOf cl .source) ≡ fitsSource frame cl
 unfolding entryOf fitsSource
@@ -34,6 +54,15 @@ source-of frame cl = go (eqb (cl .hassource) 0)
   where
     go : (b : Bool) → eqb (bitAnd (sourceAt frame) (cond (not b) (maskOf cl) 0)) (cond (not b) (cl .source) 0) ≡ not (not b) || eqb (bitAnd (sourceAt frame) (maskOf cl)) (cl .source)
     go true = rw (and-zero-r (sourceAt frame))
+    go false = refl
+
+-- a port is looked at only where there is one
+port-of : (frame : List ℕ) (start end : ℕ) → hasPort frame && (leb start (cond (hasPort frame) (portAt frame) 0) && leb (cond (hasPort frame) (portAt frame) 0) end) ≡ portWithin frame start end
+unfolding portWithin
+port-of frame start end = go (hasPort frame)
+  where
+    go : (b : Bool) → b && (leb start (cond b (portAt frame) 0) && leb (cond b (portAt frame) 0) end) ≡ b && (leb start (portAt frame) && leb (portAt frame) end)
+    go true = refl
     go false = refl
 
 ports-of : (frame : List ℕ) (cl : Classifier) → not (isPresent (entryOf cl .ports)) || portWithin frame (entryOf cl .start) (entryOf cl .end) ≡ fitsPort frame cl
@@ -47,7 +76,20 @@ ports-of frame cl = go (isPresent (cl .hasstart) || isPresent (cl .hasend))
 both : {a b c d : Bool} → a ≡ b → c ≡ d → a && c ≡ b && d
 both e f = rw (e, f)
 
+-- of an IPv4 packet
+inner : (frame : List ℕ) (cl : Classifier) → fitsPacket (full frame) (entryOf cl)
+    ≡ eqb (destinationAt frame) (cl .destination) && (fitsSource frame cl && fitsPort frame cl)
+unfolding fitsPacket entryOf
+inner frame cl =
+    ap (λ (b : Bool). eqb (destinationAt frame) (cl .destination) && b)
+    (both (source-of frame cl) (ap (λ (b : Bool). not (isPresent (entryOf cl .ports)) || b) (port-of frame (entryOf cl .start) (entryOf cl .end)) ∙ ports-of frame cl))
+
 pub matchesEntry-of : (frame : List ℕ) (cl : Classifier) → matchesEntry frame (entryOf cl) ≡ matchesFrame frame cl
-unfolding matchesEntry matchesFrame fitsPacket packetOf portWithin entryOf
-matchesEntry-of frame cl =
-    ap (λ (b : Bool). isIpv4 frame && (eqb (destinationAt frame) (cl .destination) && b)) (both (source-of frame cl) (ports-of frame cl))
+unfolding matchesEntry matchesFrame packetOf
+matchesEntry-of frame cl = go (isIpv4 frame)
+  where
+    go : (b : Bool) → cond b (full frame) none .ipv4
+        && fitsPacket (cond b (full frame) none) (entryOf cl)
+        ≡ b && (eqb (destinationAt frame) (cl .destination) && (fitsSource frame cl && fitsPort frame cl))
+    go true = inner frame cl
+    go false = refl

@@ -1,14 +1,14 @@
 -- Entry: a classifier with its absent parts filled in, and what of a frame it is compared with.
 --
---   packetOf frame        the addresses and the port of a frame, and whether it has a port
+--   packetOf frame        the addresses and the port of a frame; 0 where it is no IPv4 packet, or has no port
 --   entryOf cl            the entry of a classifier: no source is mask 0 and source 0
---   fitsPacket p e        whether a packet fits an entry
+--   fitsPacket p e        whether an IPv4 packet fits an entry
 --   matchesEntry frame e  whether an entry matches a frame
 --
 -- That `matchesEntry frame (entryOf cl)` is `matchesFrame frame cl` is a law in proofs/Entries.antt.
 -- Trusts: nothing.
 use Prim.Native.Nat.{ℕ}
-use mathlib.Core.Bool.{Bool, cond, not, _&&_, _||_}
+use mathlib.Core.Bool.{Bool, true, false, cond, not, _&&_, _||_}
 use mathlib.Core.List.{List}
 use lib.Bits.{bitAnd}
 use lib.Dec.{leb, eqb}
@@ -19,7 +19,10 @@ use Rattle.tunnel.specs.declared.Entry.{Entry}
 use Rattle.tunnel.specs.Match.{isIpv4, hasPort, sourceAt, destinationAt, portAt, presentOr, maskOf, startOf, endOf}
 
 unfoldable pub packetOf : List ℕ → Packet
-packetOf frame = record { destination = destinationAt frame; source = sourceAt frame; port = portAt frame; ported = hasPort frame }
+packetOf frame =
+    cond (isIpv4 frame)
+    (record { ipv4 = true; ported = hasPort frame; port = cond (hasPort frame) (portAt frame) 0; destination = destinationAt frame; source = sourceAt frame })
+    (record { ipv4 = false; ported = false; port = 0; destination = 0; source = 0 })
 
 -- 1 where one of two marks says present
 abbrev pub portsOf : ℕ → ℕ → ℕ
@@ -43,4 +46,4 @@ fitsPacket p e =
     && (not (isPresent (e .ports)) || (p .ported && (leb (e .start) (p .port) && leb (p .port) (e .end)))))
 
 unfoldable pub matchesEntry : List ℕ → Entry → Bool
-matchesEntry frame e = isIpv4 frame && fitsPacket (packetOf frame) e
+matchesEntry frame e = packetOf frame .ipv4 && fitsPacket (packetOf frame) e

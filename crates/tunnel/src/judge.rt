@@ -3,8 +3,7 @@ use crate::Packet;
 use crate::Verdict;
 use crate::matching::entry_of;
 use crate::matching::fits_packet;
-use crate::matching::is_ipv4;
-use crate::matching::packet_of;
+use crate::matching::read_packet;
 use choice::Best;
 use choice::Choice;
 use choice::Ucid;
@@ -77,10 +76,10 @@ fn match_place(table: Table, rule: Rule, frame: &[u8]) -> usize
     ensures { λ r. ⌜ r ≡ matchPlace table rule (now (frame .entry)) ⌝ }
 {
     let n = limited(table.classifiercount, 32);
-    if !is_ipv4(frame) {
+    let packet = read_packet(frame);
+    if !packet.ipv4 {
         return n;
     }
-    let packet = packet_of(frame);
     let mut best = Best {
         place: 32,
         priority: 0,

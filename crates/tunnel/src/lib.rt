@@ -28,12 +28,13 @@ pub enum Verdict {
     Filtered,
 }
 
-// What the classifiers look at in a frame; `ported` says whether it has a port.
+// What the classifiers look at in a frame: whether it is an IPv4 packet and has a port, the port, the addresses.
 pub struct Packet {
+    pub ipv4: bool,
+    pub ported: bool,
+    pub port: u16,
     pub destination: u32,
     pub source: u32,
-    pub port: u16,
-    pub ported: bool,
 }
 
 // A classifier with its absent parts filled in; `ports` is 0 where it names no port.

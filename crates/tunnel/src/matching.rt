@@ -9,7 +9,7 @@ ghost use Rattle.tunnel.specs.Match.{isIpv4, hasPort, presentOr};
 ghost use Rattle.tunnel.specs.Entry.{portsOf, entryOf, packetOf, fitsPacket};
 
 // Whether the frame is an IPv4 packet of 34 bytes or more.
-pub fn is_ipv4(frame: &[u8]) -> bool
+fn is_ipv4(frame: &[u8]) -> bool
     ensures { λ r. ⌜ r ≡ isIpv4 (now (frame .entry)) ⌝ }
 {
     if frame.len() < 34 {
@@ -22,7 +22,7 @@ pub fn is_ipv4(frame: &[u8]) -> bool
 }
 
 // Whether the packet has a port: protocol 6 or 17, no fragment behind the first, 38 bytes or more.
-pub fn has_port(frame: &[u8]) -> bool
+fn has_port(frame: &[u8]) -> bool
     ensures { λ r. ⌜ r ≡ hasPort (now (frame .entry)) ⌝ }
 {
     if frame.len() < 38 {
@@ -38,19 +38,37 @@ pub fn has_port(frame: &[u8]) -> bool
     protocol == 17
 }
 
-// What the classifiers look at in the frame.
-pub fn packet_of(frame: &[u8]) -> Packet
+// What the classifiers look at in the frame; 0 throughout where it is no IPv4 packet.
+pub fn read_packet(frame: &[u8]) -> Packet
     ensures { λ r. ⌜ r ≡ packetOf (now (frame .entry)) ⌝ }
 {
+    if !is_ipv4(frame) {
+        return Packet {
+            ipv4: false,
+            ported: false,
+            port: 0,
+            destination: 0,
+            source: 0,
+        };
+    }
     let destination = number4(frame, 30);
     let source = number4(frame, 26);
+    if !has_port(frame) {
+        return Packet {
+            ipv4: true,
+            ported: false,
+            port: 0,
+            destination,
+            source,
+        };
+    }
     let port = number2(frame, 36);
-    let ported = has_port(frame);
     Packet {
+        ipv4: true,
+        ported: true,
+        port,
         destination,
         source,
-        port,
-        ported,
     }
 }
 

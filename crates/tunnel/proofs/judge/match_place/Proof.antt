@@ -18,7 +18,7 @@ use Rattle.choice.specs.Best.{bestPlace}
 use Rattle.choice.proofs.Places.{bestPlace-none}
 use Rattle.choice.proofs.Scan.{nothing, scan, scan-more, scan-end, scan-none, scan-some}
 use Rattle.tunnel.specs.declared.Packet.{Packet}
-use Rattle.tunnel.specs.Match.{isIpv4, matchesFrame}
+use Rattle.tunnel.specs.Match.{matchesFrame}
 use Rattle.tunnel.specs.Judge.{namesNumber, matchPlace}
 use Rattle.tunnel.specs.Entry.{packetOf, entryOf, fitsPacket}
 use Rattle.tunnel.proofs.Entries.{matchesEntry-ipv4, matchesEntry-of, matchesFrame-not}
@@ -43,27 +43,27 @@ module _ (t : Table) (rule : Rule) (frame : List ℕ) (long : length (t .classif
   few : length (classifiersOf t) ≤ 32
   few = rw (length-classifiersOf t long) (limitedTo-le 32 (t .classifiercount))
 
-  -- no IPv4 packet: nothing matches
-  foreign : (n : ℕ) → n ≡ limitedTo 32 (t .classifiercount) → isIpv4 frame ≡ false → n ≡ matchPlace t rule frame
-  unfolding matchPlace
-  foreign n e h =
-      e ∙ sym (length-classifiersOf t long) ∙ sym (bestPlace-none (λ cl. cl .priority) (λ cl. cl .number) (λ cl. matchesFrame frame cl && namesNumber rule (cl .number)) (classifiersOf t) (λ cl m. rw (matchesFrame-not frame cl h)))
-
-  module _ (h : isIpv4 frame ≡ true) (p : Packet) (e : p ≡ packetOf frame) where
-    same : matchPlace t rule frame ≡ bestPlace (λ cl. cl .priority) (λ cl. cl .number) (passes p rule) (classifiersOf t)
+  module _ (p : Packet) (e : p ≡ packetOf frame) where
+    -- no IPv4 packet: nothing matches
+    foreign : (n : ℕ) → n ≡ limitedTo 32 (t .classifiercount) → p .ipv4 ≡ false → n ≡ matchPlace t rule frame
     unfolding matchPlace
-    same =
-        ap (λ (ok : Classifier → Bool). bestPlace (λ cl. cl .priority) (λ cl. cl .number) ok (classifiersOf t))
-        (fun-ext (λ cl. ap (λ (b : Bool). b && namesNumber rule (cl .number)) (sym (matchesEntry-of frame cl) ∙ matchesEntry-ipv4 frame (entryOf cl) h ∙ ap (λ (q : Packet). fitsPacket q (entryOf cl)) (sym e))))
+    foreign n en h =
+        en ∙ sym (length-classifiersOf t long) ∙ sym (bestPlace-none (λ cl. cl .priority) (λ cl. cl .number) (λ cl. matchesFrame frame cl && namesNumber rule (cl .number)) (classifiersOf t) (λ cl m. rw (matchesFrame-not frame p e h cl)))
 
-    module _ (b : Best) (eb : b ≡ walk p rule nothing 0 (classifiersOf t)) where
+    same : p .ipv4 ≡ true → matchPlace t rule frame ≡ bestPlace (λ cl. cl .priority) (λ cl. cl .number) (passes p rule) (classifiersOf t)
+    unfolding matchPlace
+    same h =
+        ap (λ (ok : Classifier → Bool). bestPlace (λ cl. cl .priority) (λ cl. cl .number) ok (classifiersOf t))
+        (fun-ext (λ cl. ap (λ (b : Bool). b && namesNumber rule (cl .number)) (sym (matchesEntry-of frame cl) ∙ matchesEntry-ipv4 frame p e h (entryOf cl))))
+
+    module _ (h : p .ipv4 ≡ true) (b : Best) (eb : b ≡ walk p rule nothing 0 (classifiersOf t)) where
       none : (n : ℕ) → n ≡ limitedTo 32 (t .classifiercount) → b .place ≡ 32 → n ≡ matchPlace t rule frame
       none n en eq =
-          en ∙ sym (length-classifiersOf t long) ∙ sym (same ∙ scan-none (λ cl. cl .priority) (λ cl. cl .number) (passes p rule) (classifiersOf t) few (sym (ap (λ (x : Best). x .place) eb) ∙ eq))
+          en ∙ sym (length-classifiersOf t long) ∙ sym (same h ∙ scan-none (λ cl. cl .priority) (λ cl. cl .number) (passes p rule) (classifiersOf t) few (sym (ap (λ (x : Best). x .place) eb) ∙ eq))
 
       some : (b .place ≡ 32 → ⊥) → b .place ≡ matchPlace t rule frame
       some ne =
-          ap (λ (x : Best). x .place) eb ∙ sym (same ∙ scan-some (λ cl. cl .priority) (λ cl. cl .number) (passes p rule) (classifiersOf t) few (λ eq. ne (ap (λ (x : Best). x .place) eb ∙ eq)) .0)
+          ap (λ (x : Best). x .place) eb ∙ sym (same h ∙ scan-some (λ cl. cl .priority) (λ cl. cl .number) (passes p rule) (classifiersOf t) few (λ eq. ne (ap (λ (x : Best). x .place) eb ∙ eq)) .0)
 
 loop-holds : tie.Need-loop-holds Inv-loop μ-loop
 unfolding classifiersOf
@@ -78,8 +78,7 @@ match-place-spec =
     μ-loop
     (λ c κs. search needs)
     (λ c κs. search needs)
-    (λ c. foreign _ _ _ (search (needs, length-mapped)) _ (c .before .before .limited .ensures) (sym (c .before .is-ipv4 .ensures) ∙ not-true (c .before .is-ipv4 .result) (c .if1 .taken)))
-    (λ c κs. search needs)
+    (λ c. foreign _ _ _ (search (needs, length-mapped)) _ (c .before .before .read-packet .ensures) _ (c .before .before .before .limited .ensures) (not-true (c .before .before .read-packet .result .ipv4) (c .if1 .taken)))
     loop-holds
     (λ c. search needs)
     (λ c. search needs)
@@ -89,6 +88,6 @@ match-place-spec =
     (λ c. let inv = c .before .before .before .loop .inv in
     (search needs, inv .1, inv .2, rw (c .take-classifier .ensures) (sym (scan-more _ _ _ _ _ _ _ _ (c .before .before .loop-test .taken) (omega arith)) ∙ inv .3)))
     (λ c. let inv = c .before .before .loop .inv in
-    none _ _ _ (inv .2) (sym (c .before .before .before .before .before .is-ipv4 .ensures) ∙ not-false (c .before .before .before .before .before .is-ipv4 .result) (c .before .before .before .before .if1 .left)) _ (c .before .before .before .packet-of .ensures) _ (sym (scan-end _ _ _ _ _ _ _ (c .before .loop-test .left)) ∙ inv .3) _ (c .before .before .before .before .before .before .limited .ensures) (c .if2 .taken))
+    none _ _ _ (inv .2) _ (c .before .before .before .before .before .read-packet .ensures) (not-false (c .before .before .before .before .before .read-packet .result .ipv4) (c .before .before .before .if1 .left)) _ (sym (scan-end _ _ _ _ _ _ _ (c .before .loop-test .left)) ∙ inv .3) _ (c .before .before .before .before .before .before .limited .ensures) (c .if2 .taken))
     (λ c. let inv = c .before .before .loop .inv in
-    some _ _ _ (inv .2) (sym (c .before .before .before .before .before .is-ipv4 .ensures) ∙ not-false (c .before .before .before .before .before .is-ipv4 .result) (c .before .before .before .before .if1 .left)) _ (c .before .before .before .packet-of .ensures) _ (sym (scan-end _ _ _ _ _ _ _ (c .before .loop-test .left)) ∙ inv .3) (c .if2 .left)))
+    some _ _ _ (inv .2) _ (c .before .before .before .before .before .read-packet .ensures) (not-false (c .before .before .before .before .before .read-packet .result .ipv4) (c .before .before .before .if1 .left)) _ (sym (scan-end _ _ _ _ _ _ _ (c .before .loop-test .left)) ∙ inv .3) (c .if2 .left)))

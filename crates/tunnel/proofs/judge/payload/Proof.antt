@@ -1,7 +1,7 @@
 -- `judge::payload` lends `payloadOf`: the bytes from the start to the end.
 -- Trusts: nothing.
 use borrow.Author.Needs.{needs}
-use Rattle.tunnel.proofs.Verdicts.{payloadStart-le, payloadOf-part}
+use Rattle.tunnel.proofs.Lent.{payloadStart-le, payloadOf-part}
 use Rattle.tunnel.proofs.judge.payload.Statement.{statement}
 use Rattle.tunnel.proofs.judge.payload.Tie as tie
 
