@@ -1,0 +1,154 @@
+-- Laws of one step (specs/Step.antt): what the tests leave, what the piece is added to, and one law for each answer of `collect`.
+--
+--   fits-of                what a body that is not refused is like
+--   refusalOf-room         the buffers are long enough, and the body's own tests are passed
+--   wellMade-short         a well-made record has no length over 1,497
+--   relationOf-goesOn      where the body goes on, the record is well made and its number the body's
+--   baseOf-number, baseOf-short    the record that the piece is noted in
+--   step-refused, step-again, step-waiting, step-alone, step-joined    each answer of the code, as the step has it
+-- Trusts: nothing.
+use Prim.Native.Nat.{ℕ, zero, suc, _+_, _*_, _-_, _≤_, _<_}
+use mathlib.Core.Path.{_≡_, refl, sym, ap, _∙_}
+use mathlib.Core.Bool.{Bool, true, false, cond, _&&_, _||_}
+use mathlib.Core.List.{List, [], _∷_, _++_}
+use native.Mathlib.Omega.{arith}
+use borrow.Author.Tests.{eqb-true, eqb-false, eq-eqb, ne-eqb, ltb-false, leb-true}
+use lib.ListN.{length, getD, set, replicate, getD-replicate, take, drop}
+use lib.Dec.{ltb, leb, eqb}
+use Rattle.wire.specs.Bytes.{pasted, sameBytes}
+use Rattle.wire.proofs.Laws.{both, rest-all}
+use Rattle.collector.specs.Answers.{Said, refused, again, waiting, complete}
+use Rattle.collector.specs.Pieces.{isFilled, emptySlots, soundTo, pieceAt, joined}
+use Rattle.collector.specs.Step.{countOf, numberOf, slotOf, pieceOf, bodyRefusal, refusalOf, wellMade, isOf, goesOn, repeats, anew, relationOf, emptyCollection, baseOf, noted, After, after, finished, accepted, collectStep}
+use Rattle.collector.specs.Duties.{Fits}
+use Rattle.collector.specs.declared.Collection.{Collection}
+use Rattle.collector.proofs.Laws.{soundTo-at, slotSound-len}
+
+-- ---- the tests of a body
+
+-- a test that was passed, and what follows it
+passed : (b : Bool) (x y : ℕ) → cond b (suc x) y ≡ 0 → (b ≡ false) × (y ≡ 0)
+passed true x y h = absurd (omega arith)
+passed false x y h = (refl, h)
+
+neither : (a b : Bool) → (a || b) ≡ false → (a ≡ false) × (b ≡ false)
+neither true b h = absurd (let z : _≡_ {A = ℕ} 0 1 = cc in omega arith)
+neither false b h = (refl, h)
+
+pub fits-of : (body : List ℕ) → bodyRefusal body ≡ 0 → Fits body
+unfolding bodyRefusal
+fits-of body h =
+    let p2 = passed (ltb (length body) 3) _ _ h in
+    let p3 = passed (ltb 1500 (length body)) _ _ (p2 .1) in
+    let p4 = passed (eqb (getD body 1 0) 0 || ltb 16 (getD body 1 0)) _ _ (p3 .1) in
+    let p5 = passed (eqb (getD body 2 0) 0 || ltb (getD body 1 0) (getD body 2 0)) _ _ (p4 .1) in
+    let n = neither (eqb (getD body 1 0) 0) (ltb 16 (getD body 1 0)) (p4 .0) in
+    let s = neither (eqb (getD body 2 0) 0) (ltb (getD body 1 0) (getD body 2 0)) (p5 .0) in
+    let ne = eqb-false (getD body 2 0) 0 (s .0) in
+    record {
+      head = ltb-false (length body) 3 (p2 .0);
+      most = ltb-false 1500 (length body) (p3 .0);
+      first = omega arith;
+      last = ltb-false (getD body 1 0) (getD body 2 0) (s .1);
+      few = ltb-false 16 (getD body 1 0) (n .1);
+    }
+
+pub refusalOf-room : (slots join : ℕ) (body : List ℕ) → refusalOf slots join body ≡ 0 → (24000 ≤ slots) × (24000 ≤ join) × (bodyRefusal body ≡ 0)
+unfolding refusalOf
+refusalOf-room slots join body h =
+    let p = passed (ltb slots 24000 || ltb join 24000) _ _ h in
+    let r = neither (ltb slots 24000) (ltb join 24000) (p .0) in
+    (ltb-false slots 24000 (r .0), ltb-false join 24000 (r .1), p .1)
+
+-- ---- the record
+
+-- an element of a list after a store is bounded as its elements and the new one are
+set-bound : (l : List ℕ) (i a j b : ℕ) → getD l j 0 ≤ b → a ≤ b → getD (set l i a) j 0 ≤ b
+set-bound [] i a j b h k = h
+set-bound (x ∷ xs) zero a zero b h k = k
+set-bound (x ∷ xs) zero a (suc j) b h k = h
+set-bound (x ∷ xs) (suc i) a zero b h k = h
+set-bound (x ∷ xs) (suc i) a (suc j) b h k = set-bound xs i a j b h k
+
+pub wellMade-short : (r : Collection) → wellMade r ≡ true → (k : ℕ) → k < 16 → getD (r .lengths) k 0 ≤ 1497
+unfolding wellMade
+wellMade-short r h k p =
+    let s = both (soundTo (r .filled) (r .lengths) (r .number) 16) _ (both (leb (r .number) 16) _ h .1) in
+    slotSound-len (getD (r .filled) k 0) (getD (r .lengths) k 0) k (r .number) (soundTo-at (r .filled) (r .lengths) (r .number) 16 k (s .0) p)
+
+goes-on : (a b c : Bool) → cond a (cond b (cond c repeats anew) goesOn) anew ≡ goesOn → a ≡ true
+goes-on true b c h = refl
+goes-on false b c h = absurd (omega arith)
+
+pub relationOf-goesOn : (r : Collection) (slots body : List ℕ) → relationOf r slots body ≡ goesOn → (wellMade r ≡ true) × (r .number ≡ numberOf body)
+unfolding relationOf isOf
+relationOf-goesOn r slots body h =
+    let t = both (wellMade r) _ (goes-on _ (isFilled (getD (r .filled) (slotOf body) 0)) (sameBytes (pieceAt slots (r .lengths) (slotOf body)) (pieceOf body)) h) in
+    (t .0, eqb-true _ _ (both (eqb (r .count) (countOf body)) _ (t .1) .1))
+
+module _ (r : Collection) (slots body : List ℕ) where
+  abbrev base : Collection
+  base = baseOf (relationOf r slots body) r body
+
+  pub baseOf-number : base .number ≡ numberOf body
+  unfolding baseOf
+  baseOf-number = go (eqb (relationOf r slots body) 0) refl where
+    go : (t : Bool) → eqb (relationOf r slots body) 0 ≡ t → cond t r (emptyCollection (countOf body) (numberOf body)) .number ≡ numberOf body
+    go true e = relationOf-goesOn r slots body (eqb-true _ _ e) .1
+    go false e = refl
+
+  pub baseOf-short : (k : ℕ) → k < 16 → getD (base .lengths) k 0 ≤ 1497
+  unfolding baseOf
+  baseOf-short k p = go (eqb (relationOf r slots body) 0) refl where
+    go : (t : Bool) → eqb (relationOf r slots body) 0 ≡ t → getD (cond t r (emptyCollection (countOf body) (numberOf body)) .lengths) k 0 ≤ 1497
+    go true e = wellMade-short r (relationOf-goesOn r slots body (eqb-true _ _ e) .0) k p
+    go false e = omega (arith, getD-replicate {A = ℕ} 16 k 0 0 p)
+
+  pub noted-short : (k : ℕ) → length body ≤ 1500 → k < 16 → getD (noted base (slotOf body) (length body - 3) .lengths) k 0 ≤ 1497
+  noted-short k m p = set-bound (base .lengths) (slotOf body) (length body - 3) k 1497 (baseOf-short k p) (omega arith)
+
+-- what the code compares is the held piece and the body's
+pub compared : (slots lens body : List ℕ) (k : ℕ) → sameBytes (take (k * 1500 + getD lens k 0 - k * 1500) (drop (k * 1500) slots)) (take (length body - 3) (drop 3 body)) ≡ sameBytes (pieceAt slots lens k) (pieceOf body)
+unfolding pieceAt
+compared slots lens body k =
+    let e : k * 1500 + getD lens k 0 - k * 1500 ≡ getD lens k 0 = omega arith in
+    rw (e, rest-all body 3) refl
+
+-- ---- each answer of the code, as the step has it
+
+pub step-refused : (r : Collection) (slots join body : List ℕ) (num : ℕ) → num ≡ refusalOf (length slots) (length join) body → (num ≡ 0 → ⊥)
+    → after (refused num) r slots join ≡ collectStep r slots join body
+unfolding collectStep
+step-refused r slots join body num e ne = simp (← e, ne-eqb num 0 ne)
+
+module _ (r : Collection) (slots join body : List ℕ) (ok : refusalOf (length slots) (length join) body ≡ 0) where
+  pub step-again : (how : ℕ) → how ≡ relationOf r slots body → how ≡ repeats → after again r slots join ≡ collectStep r slots join body
+  unfolding collectStep accepted
+  step-again how e h = simp (ok, ← e, h)
+
+  module _ (how : ℕ) (e : how ≡ relationOf r slots body) (ne : how ≡ repeats → ⊥) (from : Collection) (f : from ≡ baseOf how r body)
+      (next : Collection) (g : next ≡ noted from (slotOf body) (length body - 3)) where
+    pub next-number : next .number ≡ numberOf body
+    next-number = rw (g, f, e) (baseOf-number r slots body)
+
+    pub next-short : (k : ℕ) → length body ≤ 1500 → k < 16 → getD (next .lengths) k 0 ≤ 1497
+    next-short k m p = rw (g, f, e) (noted-short r slots body k m p)
+
+    pub step-stored : (stored : List ℕ) → stored ≡ pasted slots (slotOf body * 1500) (pieceOf body) → finished next stored join (length body - 3) ≡ collectStep r slots join body
+    unfolding collectStep accepted
+    step-stored stored h = simp (ok, ← e, ne-eqb how 1 ne, ← f, ← g, ← h)
+
+-- the piece is stored and noted, and m slots are empty
+module _ (next : Collection) (stored join : List ℕ) (len : ℕ) (R : After) (e : finished next stored join len ≡ R) (m : ℕ) (a : m ≡ emptySlots (next .filled) (next .number)) where
+  pub step-waiting : (m ≡ 0 → ⊥) → after (waiting m) next stored join ≡ R
+  unfolding finished
+  step-waiting b = simp (← a, ne-eqb m 0 b) at e
+
+  pub step-alone : m ≡ 0 → next .number ≡ 1 → after (complete len) next stored join ≡ R
+  unfolding finished
+  step-alone b d = simp (← a, eq-eqb m 0 b, eq-eqb (next .number) 1 d) at e
+
+  pub step-joined : m ≡ 0 → (next .number ≡ 1 → ⊥) → (size : ℕ) → size ≡ length (joined stored (next .lengths) (next .number))
+      → (last : List ℕ) → last ≡ joined stored (next .lengths) (next .number) ++ drop size join → after (complete size) next stored last ≡ R
+  unfolding finished
+  step-joined b d size i last l = simp (l, i) (simp (← a, eq-eqb m 0 b, ne-eqb (next .number) 1 d) at e)

@@ -1,0 +1,380 @@
+// Collects the pieces of a message (document 01, "Collecting pieces").
+//
+// Four public functions. `empty_collection` gives a record with nothing collected. `collect` takes a
+// record, the two lent buffers and a body, and answers Refused (1 to 5), Repeat, Waiting or Complete.
+// `message` lends the message that belongs to an outcome: a part of the body or of the join buffer.
+// `collect_lent` does both in one call, with the two slices at their own lifetimes.
+//
+// All take any record and buffers of any length: bad input is an answer, never a duty of the caller,
+// and after a refusal record and buffers are as they were. The slot buffer changes only where a piece
+// is stored, the join buffer only where a message of several pieces is joined.
+ghost use mathlib.Core.Path.{_≡_};
+ghost use Prim.Native.Nat.{ℕ, _-_, _*_, _+_, _≤_, _<_};
+ghost use mathlib.Core.List.{_++_};
+ghost use lib.ListN.{length, take, drop, getD};
+ghost use Rattle.wire.specs.Bytes.{pasted};
+ghost use Rattle.collector.specs.Pieces.{emptySlots, slotSound, soundTo, joined};
+ghost use Rattle.collector.specs.Answers.{said, lentOf};
+ghost use Rattle.collector.specs.Duties.{Fits};
+ghost use Rattle.collector.specs.Step.{pieceOf, bodyRefusal, refusalOf, wellMade, relationOf, emptyCollection, noted, baseOf, After, collectStep};
+
+// The least length of a lent buffer, the bytes of a slot, and the most bytes of a piece.
+pub const BUFFER_BYTES: usize = 24000;
+
+pub const SLOT_BYTES: usize = 1500;
+
+pub const PIECE_BYTES: u16 = 1497;
+
+// How a body stands to what is held.
+const GOES_ON: u8 = 0;
+
+const REPEATS: u8 = 1;
+
+const ANEW: u8 = 2;
+
+// What is held: the count and number of a collection, and for each of sixteen slots whether it is
+// filled (1; 0 is empty) and its length. Number 0 means nothing collected.
+#[repr(C)]
+pub struct Collection {
+    pub count: u8,
+    pub number: u8,
+    pub filled: [u8; 16],
+    pub lengths: [u16; 16],
+}
+
+// What a body is answered.
+pub enum Answer {
+    // Not taken: the number of the first test that it fails, 1 to 5.
+    Refused(u8),
+    // Its slot has these bytes already.
+    Repeat,
+    // Stored; so many slots are empty.
+    Waiting(usize),
+    // Stored, and none is missing: the length of the message.
+    Complete(usize),
+}
+
+// The answer, and the record after the call.
+pub struct Outcome {
+    pub answer: Answer,
+    pub held: Collection,
+}
+
+// Nothing collected yet under this count and number.
+fn begin(count: u8, number: u8) -> Collection
+    ensures { λ r. ⌜ r ≡ emptyCollection count number ⌝ }
+{
+    Collection {
+        count,
+        number,
+        filled: [0u8; 16],
+        lengths: [0u16; 16],
+    }
+}
+
+// A record with nothing collected.
+pub fn empty_collection() -> Collection
+    ensures { λ r. ⌜ r ≡ emptyCollection 0 0 ⌝ }
+{
+    begin(0, 0)
+}
+
+// The record with slot `k` filled with `len` bytes.
+fn note(held: Collection, k: usize, len: u16) -> Collection
+    requires { ⌜ k < 16 ⌝ }
+    ensures { λ r. ⌜ r ≡ noted held k len ⌝ }
+{
+    let mut r = held;
+    r.filled[k] = 1;
+    r.lengths[k] = len;
+    r
+}
+
+// How many of the first `n` slots are empty.
+fn count_empty(filled: [u8; 16], n: usize) -> usize
+    requires { ⌜ n ≤ 16 ⌝ }
+    ensures { λ r. ⌜ r ≡ emptySlots filled n ⌝ }
+{
+    let mut empty: usize = 0;
+    let mut k = 0;
+    while k < n {
+        if filled[k] != 1 {
+            empty += 1;
+        }
+        k += 1;
+    }
+    empty
+}
+
+// Whether slot `k` of `n` is as calls leave it.
+fn slot_sound(flag: u8, len: u16, k: usize, n: usize) -> bool
+    ensures { λ r. ⌜ r ≡ slotSound flag len k n ⌝ }
+{
+    if flag == 1 {
+        if k < n {
+            return len <= PIECE_BYTES;
+        }
+        return false;
+    }
+    if flag == 0 {
+        return len == 0;
+    }
+    false
+}
+
+// Whether all sixteen slots are.
+fn all_sound(filled: [u8; 16], lengths: [u16; 16], n: usize) -> bool
+    ensures { λ r. ⌜ r ≡ soundTo filled lengths n 16 ⌝ }
+{
+    let mut sound = true;
+    let mut k = 0;
+    while k < 16 {
+        if !slot_sound(filled[k], lengths[k], k, n) {
+            sound = false;
+        }
+        k += 1;
+    }
+    sound
+}
+
+// Whether something is collected, and calls could have made the record.
+fn well_made(held: Collection) -> bool
+    ensures { λ r. ⌜ r ≡ wellMade held ⌝ }
+{
+    let n = held.number as usize;
+    let filled = held.filled;
+    let lengths = held.lengths;
+    if 16 < n {
+        return false;
+    }
+    if all_sound(filled, lengths, n) {
+        return count_empty(filled, n) < n;
+    }
+    false
+}
+
+// The first of tests 2 to 5 that the body fails, or 0.
+fn refuse_body(body: &[u8]) -> u8
+    ensures { λ r. ⌜ r ≡ bodyRefusal (now (body .entry)) ⌝ }
+{
+    if body.len() < 3 {
+        return 2;
+    }
+    if SLOT_BYTES < body.len() {
+        return 3;
+    }
+    let n = body[1];
+    if n == 0 {
+        return 4;
+    }
+    if 16 < n {
+        return 4;
+    }
+    let s = body[2];
+    if s == 0 {
+        return 5;
+    }
+    if n < s {
+        return 5;
+    }
+    0
+}
+
+// The refusal of a body and two buffers of these lengths, 1 to 5, or 0.
+fn refuse(slots: usize, join: usize, body: &[u8]) -> u8
+    ensures { λ r. ⌜ r ≡ refusalOf slots join (now (body .entry)) ⌝ }
+{
+    if slots < BUFFER_BYTES {
+        return 1;
+    }
+    if join < BUFFER_BYTES {
+        return 1;
+    }
+    refuse_body(body)
+}
+
+// How the body stands to what is held.
+fn relate(held: Collection, slots: &[u8], body: &[u8]) -> u8
+    requires { ⌜ (24000 ≤ length (now slots)) × Fits (now body) ⌝ }
+    ensures { λ r. ⌜ r ≡ relationOf held (now (slots .entry)) (now (body .entry)) ⌝ }
+{
+    if !well_made(held) {
+        return ANEW;
+    }
+    if held.count != body[0] {
+        return ANEW;
+    }
+    if held.number != body[1] {
+        return ANEW;
+    }
+    let s = body[2] as usize;
+    let k = s - 1;
+    if held.filled[k] != 1 {
+        return GOES_ON;
+    }
+    let at = k * SLOT_BYTES;
+    let len = held.lengths[k] as usize;
+    if wire::same_bytes(&slots[at..at + len], &body[3..]) {
+        return REPEATS;
+    }
+    ANEW
+}
+
+// The record that the piece is noted in.
+fn base(how: u8, held: Collection, body: &[u8]) -> Collection
+    requires { ⌜ 2 ≤ length (now body) ⌝ }
+    ensures { λ r. ⌜ r ≡ baseOf how held (now (body .entry)) ⌝ }
+{
+    if how == GOES_ON {
+        return held;
+    }
+    begin(body[0], body[1])
+}
+
+// Stores the body's piece in slot `k`.
+fn store(slots: &mut [u8], k: usize, body: &[u8])
+    requires { ⌜ (3 ≤ length (now body)) × (k * 1500 + (length (now body) - 3) ≤ length (now slots)) ⌝ }
+    ensures { λ _. ⌜ now (slots .exit) ≡ pasted (now (slots .entry)) (k * 1500) (pieceOf (now (body .entry))) ⌝ }
+{
+    let at = k * SLOT_BYTES;
+    wire::copy_at(slots, at, &body[3..]);
+}
+
+// Joins the pieces of the first `n` slots at the start of the join buffer; answers their length.
+fn join_up(slots: &[u8], join: &mut [u8], lengths: [u16; 16], n: usize) -> usize
+    requires { ⌜ (n ≤ 16) × (24000 ≤ length (now slots)) ⌝ }
+    requires { ⌜ 24000 ≤ length (now join) ⌝ }
+    requires { ⌜ ((k : ℕ) → k < 16 → getD lengths k 0 ≤ 1497) ⌝ }
+    ensures { λ r. ⌜ r ≡ length (joined (now (slots .entry)) lengths n) ⌝ }
+    ensures { λ r. ⌜ now (join .exit) ≡ joined (now (slots .entry)) lengths n ++ drop r (now (join .entry)) ⌝ }
+{
+    let mut at = 0;
+    let mut k = 0;
+    while k < n {
+        let from = k * SLOT_BYTES;
+        let len = lengths[k] as usize;
+        wire::copy_at(join, at, &slots[from..from + len]);
+        at += len;
+        k += 1;
+    }
+    at
+}
+
+// One body: its answer and the record after it; the piece is stored, and a message of several pieces joined.
+pub fn collect(held: Collection, slots: &mut [u8], join: &mut [u8], body: &[u8]) -> Outcome
+    ensures { λ r. ⌜ record { answer = said (r .answer); held = r .held; slots = now (slots .exit); join = now (join .exit) } ≡ collectStep held (now (slots .entry)) (now (join .entry)) (now (body .entry)) ⌝ }
+{
+    let refusal = refuse(slots.len(), join.len(), body);
+    if refusal != 0 {
+        return Outcome {
+            answer: Answer::Refused(refusal),
+            held,
+        };
+    }
+    let how = relate(held, slots, body);
+    if how == REPEATS {
+        return Outcome {
+            answer: Answer::Repeat,
+            held,
+        };
+    }
+    let s = body[2] as usize;
+    let k = s - 1;
+    let len = body.len() - 3;
+    let from = base(how, held, body);
+    let next = note(from, k, len as u16);
+    store(slots, k, body);
+    let filled = next.filled;
+    let n = next.number as usize;
+    let empty = count_empty(filled, n);
+    if empty != 0 {
+        return Outcome {
+            answer: Answer::Waiting(empty),
+            held: next,
+        };
+    }
+    if n == 1 {
+        return Outcome {
+            answer: Answer::Complete(len),
+            held: next,
+        };
+    }
+    let lengths = next.lengths;
+    let size = join_up(slots, join, lengths, n);
+    Outcome {
+        answer: Answer::Complete(size),
+        held: next,
+    }
+}
+
+// The first `n` bytes, or all where there are fewer.
+fn front<'a>(bytes: &'a [u8], n: usize) -> &'a [u8]
+    ensures { λ r. ⌜ now r ≡ take n (now (bytes .entry)) ⌝ }
+{
+    if n <= bytes.len() {
+        return &bytes[..n];
+    }
+    bytes
+}
+
+// The message bytes of a body.
+fn piece<'b>(body: &'b [u8]) -> &'b [u8]
+    ensures { λ r. ⌜ now r ≡ pieceOf (now (body .entry)) ⌝ }
+{
+    if body.len() < 3 {
+        return &body[..0];
+    }
+    &body[3..]
+}
+
+// The message that an outcome reports, lent from the body or the join buffer; nothing where none is complete.
+pub fn message<'a>(outcome: Outcome, body: &'a [u8], join: &'a [u8]) -> &'a [u8]
+    ensures { λ r. ⌜ now r ≡ lentOf (said (outcome .answer)) (outcome .held .number) (now (body .entry)) (now (join .entry)) ⌝ }
+{
+    let number = outcome.held.number;
+    let answer = outcome.answer;
+    match answer {
+        Answer::Complete(n) => {
+            if number == 1 {
+                return piece(body);
+            }
+            front(join, n)
+        }
+        Answer::Refused(_) | Answer::Repeat | Answer::Waiting(_) => front(body, 0),
+    }
+}
+
+// The join buffer, shared for good.
+fn share<'j>(join: &'j mut [u8]) -> &'j [u8]
+    ensures { λ r. ⌜ now r ≡ now (join .entry) ⌝ }
+{
+    &join[..]
+}
+
+// The outcome with the two slices that a complete message is lent from, each at its own lifetime: the
+// body's piece, which is the message where the number is 1, and the join buffer, at whose start the
+// message stands otherwise. It is lent whole, so that every byte of it is known.
+pub struct Lent<'b, 'j> {
+    pub outcome: Outcome,
+    pub body: &'b [u8],
+    pub join: &'j [u8],
+}
+
+// `collect`, with the message lent back.
+pub fn collect_lent<'b, 'j, 's>(
+    held: Collection,
+    slots: &'s mut [u8],
+    join: &'j mut [u8],
+    body: &'b [u8],
+) -> Lent<'b, 'j>
+    ensures { λ r. ⌜ (record { answer = said (r .outcome .answer); held = r .outcome .held; slots = now (slots .exit); join = now (r .join) } ≡ collectStep held (now (slots .entry)) (now (join .entry)) (now (body .entry))) × (now (r .body) ≡ pieceOf (now (body .entry))) ⌝ }
+{
+    let outcome = collect(held, slots, &mut *join, body);
+    let own = piece(body);
+    let shared = share(join);
+    Lent {
+        outcome,
+        body: own,
+        join: shared,
+    }
+}

@@ -1,0 +1,2 @@
+-- Laws: how long the lists of a table and of a rule are.
+pub mod Laws

@@ -1,0 +1,43 @@
+//! The independent program: a DSG receiver written from document 01 alone.
+//!
+//! It shares no code, no table and no test data with the proved library, and exists to be compared
+//! with it. It is written to be read beside the document; speed comes second.
+//!
+//!   collecting   pieces into a message        document 01, "Collecting pieces"
+//!   elements     a message into elements      "Elements", refusals 6 to 14
+//!   table        elements into a table        "Elements", refusals 3 and 15
+//!   choosing     a rule for a client, and the verdict on a frame   "Choosing and judging"
+//!   modem        one event on the record      "Modem record"
+//!   listing      what `dcdlist` writes        "Listing"
+//!   protocol     the bench protocol's lines
+//!
+//! Every function takes any input; bad input is an answer.
+
+#![forbid(unsafe_code)]
+
+pub mod choosing;
+pub mod collecting;
+pub mod elements;
+pub mod listing;
+pub mod modem;
+pub mod protocol;
+pub mod table;
+
+/// A refusal of document 01, "Refusal numbers".
+#[derive(Clone, Copy, Debug, PartialEq, Eq)]
+pub struct Refusal {
+    pub number: u8,
+    /// Offset in the message of the type byte concerned; 0 outside refusals 6 to 15.
+    pub offset: usize,
+}
+
+impl Refusal {
+    /// A refusal that concerns no byte of a message.
+    pub fn whole(number: u8) -> Refusal {
+        Refusal::at(number, 0)
+    }
+
+    pub fn at(number: u8, offset: usize) -> Refusal {
+        Refusal { number, offset }
+    }
+}

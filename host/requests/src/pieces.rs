@@ -1,0 +1,226 @@
+//! Random collections: runs of pieces with all that may come between them, records that no calls
+//! could have made, bodies that are refused, and buffers that are too short.
+
+use crate::messages::message;
+use crate::random::Random;
+use reference::collecting::{Fault, Record, BODY_MAX, BUFFER_MIN, PIECE_MAX, SLOTS};
+use reference::protocol::request::{Request, BUFFER_MAX};
+use reference::table::MESSAGE_MAX;
+
+pub fn scenario(random: &mut Random) -> Vec<Request> {
+    match random.below(10) {
+        0 => short_buffers(random),
+        1..=3 => invented_record(random),
+        _ => run(random),
+    }
+}
+
+fn pieces(bodies: Vec<Vec<u8>>) -> impl Iterator<Item = Request> {
+    bodies.into_iter().map(Request::Piece)
+}
+
+fn new_buffers(random: &mut Random, fill: u8) -> Request {
+    let sizes = [BUFFER_MIN, BUFFER_MIN, BUFFER_MIN + 1, BUFFER_MIN + 700];
+    Request::New {
+        slot: random.pick(&sizes),
+        join: random.pick(&sizes),
+        fill,
+    }
+}
+
+/// Pieces, good and bad, with one buffer or both too short; then buffers that do.
+fn short_buffers(random: &mut Random) -> Vec<Request> {
+    let sizes = [0, 1, BUFFER_MIN - 1, BUFFER_MIN - 1, BUFFER_MIN, BUFFER_MAX];
+    let new = Request::New {
+        slot: random.pick(&sizes),
+        join: random.pick(&sizes),
+        fill: random.byte(),
+    };
+    let mut requests = vec![new];
+    requests.extend(pieces(vec![body(random, 1, 1, b"x"), refused_body(random)]));
+    requests.push(new_buffers(random, 0));
+    requests
+}
+
+/// A message cut into pieces that come in any order, some of them again, with others between.
+fn run(random: &mut Random) -> Vec<Request> {
+    let message = cuttable_message(random);
+    let count = random.byte();
+    let bodies = cut(random, count, &message);
+    let mut arrivals = bodies.clone();
+    random.shuffle(&mut arrivals);
+    for _ in 0..random.pick(&[0, 1, 2, bodies.len()]) {
+        let at = random.below(arrivals.len() + 1);
+        arrivals.insert(at, random.pick(&bodies));
+    }
+    for _ in 0..random.pick(&[0, 0, 1, 3]) {
+        let at = random.below(arrivals.len() + 1);
+        arrivals.insert(at, intruder(random, &bodies));
+    }
+    arrivals.push(random.pick(&bodies));
+    let mut requests = Vec::new();
+    if random.once_in(2) {
+        let fill = random.byte();
+        requests.push(new_buffers(random, fill));
+    }
+    requests.extend(pieces(arrivals));
+    if random.once_in(8) {
+        requests.push(Request::TRead(message));
+    }
+    requests
+}
+
+/// A message that sixteen pieces can carry, mostly a short one.
+fn cuttable_message(random: &mut Random) -> Vec<u8> {
+    let any = random.below(MESSAGE_MAX);
+    match random.below(24) {
+        0 => random.bytes(MESSAGE_MAX),
+        1 => random.bytes(any),
+        2..=4 => message(random).into_iter().take(MESSAGE_MAX).collect(),
+        5..=6 => Vec::new(),
+        7..=8 => random.bytes(PIECE_MAX),
+        _ => {
+            let length = random.between(1, 60);
+            random.bytes(length)
+        }
+    }
+}
+
+/// Bodies that carry the message, cut anywhere; some pieces may be empty.
+fn cut(random: &mut Random, count: u8, message: &[u8]) -> Vec<Vec<u8>> {
+    let fewest = message.len().div_ceil(PIECE_MAX).max(1);
+    let any = random.between(fewest, SLOTS);
+    let number = random.pick(&[fewest, any, any, SLOTS]);
+    let mut rest = message;
+    let mut bodies = Vec::new();
+    for sequence in 1..=number {
+        let room_after = (number - sequence) * PIECE_MAX;
+        let least = rest.len().saturating_sub(room_after);
+        let length = random.between(least, rest.len().min(PIECE_MAX));
+        let (piece, after) = rest.split_at(length);
+        bodies.push(body(random, number as u8, sequence as u8, piece));
+        rest = after;
+    }
+    for body in &mut bodies {
+        body[0] = count;
+    }
+    bodies
+}
+
+fn body(random: &mut Random, number: u8, sequence: u8, piece: &[u8]) -> Vec<u8> {
+    let mut body = vec![random.byte(), number, sequence];
+    body.extend(piece);
+    body
+}
+
+/// A body that comes between: a refused one, or one near a piece of the run.
+fn intruder(random: &mut Random, bodies: &[Vec<u8>]) -> Vec<u8> {
+    let mut near = random.pick(bodies);
+    match random.below(8) {
+        0 => near[0] = near[0].wrapping_add(1),
+        1 => near[1] = random.between(1, SLOTS) as u8,
+        2 => near[2] = random.between(1, near[1].into()) as u8,
+        3 => near.push(random.byte()),
+        4 => drop(near.pop()),
+        5 if near.len() > 3 => *near.last_mut().expect("a byte") ^= 1,
+        _ => near = refused_body(random),
+    }
+    near
+}
+
+/// A body by itself: a refused one, or one of several pieces.
+pub fn any_body(random: &mut Random) -> Vec<u8> {
+    if random.once_in(2) {
+        return refused_body(random);
+    }
+    let number = random.between(2, SLOTS);
+    let sequence = random.between(1, number);
+    body(random, number as u8, sequence as u8, b"any")
+}
+
+/// A body that some test of 2 to 5 refuses.
+fn refused_body(random: &mut Random) -> Vec<u8> {
+    let high = random.between(SLOTS + 1, 255) as u8;
+    let number = random.between(1, SLOTS) as u8;
+    let length = random.between(0, 8);
+    let mut body = random.bytes(3 + length);
+    match random.below(6) {
+        0 => body.truncate(random.below(3)),
+        1 => body.resize(BODY_MAX + random.pick(&[1, 1, 2, 500]), number),
+        2 => body[1] = 0,
+        3 => body[1] = random.pick(&[17, high]),
+        4 => (body[1], body[2]) = (number, 0),
+        _ => (body[1], body[2]) = (number, number + 1),
+    }
+    body
+}
+
+/// A record given outright, mostly one that no calls could have made, then pieces that would be
+/// repeats or would complete it if it held what it says.
+fn invented_record(random: &mut Random) -> Vec<Request> {
+    let fill = random.byte();
+    let mut record = sound_record(random);
+    let held = record.clone();
+    if !random.once_in(4) {
+        break_record(random, &mut record);
+    }
+    let mut requests = vec![new_buffers(random, fill), Request::Rec(record)];
+    if random.once_in(3) {
+        requests.push(Request::Piece(refused_body(random)));
+    }
+    for _ in 0..random.between(1, 4) {
+        requests.push(Request::Piece(fitting_body(random, &held, fill)));
+    }
+    requests
+}
+
+fn sound_record(random: &mut Random) -> Record {
+    let number = random.pick(&[1, 2, 2, 3, 5, 15, 16]);
+    let mut record = Record {
+        count: random.byte(),
+        number,
+        ..Record::default()
+    };
+    let first = random.below(number.into());
+    for slot in 0..usize::from(number) {
+        if slot == first || random.once_in(2) {
+            record.filled[slot] = true;
+            record.lengths[slot] = random.pick(&[0, 1, 5, 5, 1_496, 1_497]);
+        }
+    }
+    record
+}
+
+fn break_record(random: &mut Random, record: &mut Record) {
+    let number = usize::from(record.number);
+    let slot = random.below(SLOTS);
+    let filled = record.filled.iter().position(|&filled| filled).unwrap_or(0);
+    match random.pick(&Fault::ALL) {
+        Fault::NumberOver16 => record.number = random.pick(&[17, 18, 255]),
+        Fault::LengthOver1497 => record.lengths[filled] = random.pick(&[1_498, 1_500, 65_535]),
+        Fault::LengthOnEmptySlot => {
+            record.filled[slot] = false;
+            record.lengths[slot] = random.pick(&[1, 1_497]);
+        }
+        Fault::FilledBeyondNumber => record.filled[number.max(slot).min(SLOTS - 1)] = true,
+        Fault::NumberWithNothingFilled => {
+            record.filled = [false; SLOTS];
+            record.lengths = [0; SLOTS];
+        }
+    }
+}
+
+/// A body of the record's run: what the slot holds, or something near it.
+fn fitting_body(random: &mut Random, record: &Record, fill: u8) -> Vec<u8> {
+    let slot = random.below(record.number.into());
+    let length = usize::from(record.lengths[slot]).min(PIECE_MAX);
+    let mut piece = vec![fill; length];
+    match random.below(4) {
+        0 => piece = random.bytes(length),
+        1 => piece.truncate(length / 2),
+        _ => {}
+    }
+    let mut body = body(random, record.number, slot as u8 + 1, &piece);
+    body[0] = record.count;
+    body
+}
