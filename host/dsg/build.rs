@@ -4,8 +4,10 @@ use std::env;
 use std::path::PathBuf;
 
 fn main() {
-    let here = PathBuf::from(env::var("CARGO_MANIFEST_DIR").expect("cargo names the package's folder"));
-    let folder = env::var("DSG_LIB_DIR").map_or_else(|_| here.join("../../target/staticlib"), PathBuf::from);
+    let here =
+        PathBuf::from(env::var("CARGO_MANIFEST_DIR").expect("cargo names the package's folder"));
+    let folder =
+        env::var("DSG_LIB_DIR").map_or_else(|_| here.join("../../target/staticlib"), PathBuf::from);
     let library = folder.join("libdsg.a");
     assert!(
         library.exists(),

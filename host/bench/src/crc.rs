@@ -10,7 +10,11 @@ const fn remainders() -> [u32; 256] {
         let mut rest = byte as u32;
         let mut bit = 0;
         while bit < 8 {
-            rest = if rest & 1 == 1 { rest >> 1 ^ 0xEDB8_8320 } else { rest >> 1 };
+            rest = if rest & 1 == 1 {
+                rest >> 1 ^ 0xEDB8_8320
+            } else {
+                rest >> 1
+            };
             bit += 1;
         }
         all[byte] = rest;
@@ -21,7 +25,9 @@ const fn remainders() -> [u32; 256] {
 
 /// The CRC of bytes.
 pub fn crc32(bytes: &[u8]) -> u32 {
-    !bytes.iter().fold(!0, |crc: u32, &b| REMAINDERS[usize::from(crc as u8 ^ b)] ^ crc >> 8)
+    !bytes.iter().fold(!0, |crc: u32, &b| {
+        REMAINDERS[usize::from(crc as u8 ^ b)] ^ crc >> 8
+    })
 }
 
 #[cfg(test)]

@@ -6,8 +6,9 @@ use dsg::records::{
 };
 use dsg::{Collection, Modem, Table};
 
-const STATES: [&str; 7] =
-    ["idle", "scanning", "checking", "oneway", "ranging", "twoway", "resting"];
+const STATES: [&str; 7] = [
+    "idle", "scanning", "checking", "oneway", "ranging", "twoway", "resting",
+];
 
 /// `COUNT NUMBER FLAGS LENS`.
 pub fn collection(words: &[&str]) -> Option<Collection> {
@@ -34,8 +35,11 @@ pub fn modem(words: &[&str]) -> Option<Modem> {
     let [state, last, permission, ucid, t1, t2, t3, t4, receive, retry, "adv"] = words else {
         return None;
     };
-    let (ucid, receive, retry) =
-        (optional(ucid, byte)?, optional(receive, long)?, optional(retry, long)?);
+    let (ucid, receive, retry) = (
+        optional(ucid, byte)?,
+        optional(receive, long)?,
+        optional(retry, long)?,
+    );
     Some(Modem {
         last: long(last)?,
         receive: receive.unwrap_or(0),
@@ -81,7 +85,10 @@ pub fn client(word: &str) -> Option<Client> {
         "2" => hex_number(value, 6)?,
         _ => return None,
     };
-    Some(Client { kind: byte(kind)?, value })
+    Some(Client {
+        kind: byte(kind)?,
+        value,
+    })
 }
 
 fn client_text(c: &Client) -> String {
@@ -129,7 +136,11 @@ fn rule_text(r: &Rule, place: usize) -> String {
         r.priority,
         r.tunnel,
         commas(&r.ucids[..usize::from(r.ucidcount)]),
-        commas(r.clients[..usize::from(r.clientcount)].iter().map(client_text)),
+        commas(
+            r.clients[..usize::from(r.clientcount)]
+                .iter()
+                .map(client_text)
+        ),
         commas(&r.numbers[..usize::from(r.numbercount)]),
     )
 }
@@ -218,7 +229,10 @@ pub fn table(words: &[&str]) -> Option<Table> {
 /// The text of a table.
 pub fn table_text(t: &Table) -> String {
     let v = t.timers;
-    let mut text = format!("table j128 {} {} {} {} -", v.tdsg1, v.tdsg2, v.tdsg3, v.tdsg4);
+    let mut text = format!(
+        "table j128 {} {} {} {} -",
+        v.tdsg1, v.tdsg2, v.tdsg3, v.tdsg4
+    );
     for (place, r) in t.rules[..usize::from(t.rulecount)].iter().enumerate() {
         text += &rule_text(r, place);
     }

@@ -27,7 +27,10 @@ fn verdict_text(verdict: Result<Verdict, Refusal>) -> String {
         Err(refusal) => refused(refusal),
         Ok(Verdict::Other) => "other".into(),
         Ok(Verdict::Filtered) => "filtered".into(),
-        Ok(Verdict::Forward { classifier, payload }) => {
+        Ok(Verdict::Forward {
+            classifier,
+            payload,
+        }) => {
             format!("forward {classifier} {}", hex(payload))
         }
     }
@@ -35,7 +38,9 @@ fn verdict_text(verdict: Result<Verdict, Refusal>) -> String {
 
 fn event(words: &[&str]) -> Option<Event> {
     Some(match words {
-        ["start", permitted] => Event::Start { permitted: flag(permitted)? == 1 },
+        ["start", permitted] => Event::Start {
+            permitted: flag(permitted)? == 1,
+        },
         ["locked"] => Event::Locked,
         ["empty"] => Event::ScanEmpty,
         ["table", t1, t2, t3, t4] => {
@@ -135,7 +140,11 @@ impl Session {
             }
         };
         let held = collection_text(&self.held);
-        format!("{answer} | {held} | {} {}", crc32(&self.slots), crc32(&self.join))
+        format!(
+            "{answer} | {held} | {} {}",
+            crc32(&self.slots),
+            crc32(&self.join)
+        )
     }
 
     fn choose(&self, id: &str, ucid: &str) -> Option<String> {
@@ -158,14 +167,24 @@ impl Session {
         if prepared == verdict {
             Some(verdict_text(verdict))
         } else {
-            Some(format!("{}, prepared {}", verdict_text(verdict), verdict_text(prepared)))
+            Some(format!(
+                "{}, prepared {}",
+                verdict_text(verdict),
+                verdict_text(prepared)
+            ))
         }
     }
 
     fn event(&mut self, now: u32, event: Event) -> Option<String> {
-        let answer = self.modem.on_event(now, event).map_or_else(refused, |()| "ok".into());
+        let answer = self
+            .modem
+            .on_event(now, event)
+            .map_or_else(refused, |()| "ok".into());
         let on = |b| u8::from(b);
         let (sends, forwards) = (on(self.modem.transmits()), on(self.modem.forwards()));
-        Some(format!("{answer} | {} | {sends} {forwards}", modem_text(&self.modem)))
+        Some(format!(
+            "{answer} | {} | {sends} {forwards}",
+            modem_text(&self.modem)
+        ))
     }
 }

@@ -13,6 +13,7 @@ use crate::records::{Collection, Modem, Table, Tunnel};
 pub struct Collected {
     pub kind: u32,
     pub number: u32,
+    pub empty: usize,
     pub start: usize,
     pub length: usize,
 }
@@ -31,6 +32,7 @@ pub struct ReadAnswer {
 pub struct Received {
     pub kind: u32,
     pub number: u32,
+    pub empty: usize,
     pub offset: usize,
 }
 
@@ -39,7 +41,7 @@ pub struct Received {
 #[derive(Clone, Copy, Debug, PartialEq, Eq)]
 pub struct Choice {
     pub number: u32,
-    pub place: u32,
+    pub place: usize,
 }
 
 /// The answer to a frame.
@@ -65,6 +67,7 @@ mod raw {
     use crate::records::{Collection, Modem, Table, Tunnel};
 
     extern "C" {
+        pub fn dsg_empty_collection() -> Collection;
         pub fn dsg_empty_table() -> Table;
         pub fn dsg_empty_modem() -> Modem;
         pub fn dsg_collect(
@@ -87,7 +90,8 @@ mod raw {
             body: *const u8,
             body_length: usize,
         ) -> Received;
-        pub fn dsg_choose(table: *const Table, kind: u8, value: u64, known: u8, ucid: u8) -> Choice;
+        pub fn dsg_choose(table: *const Table, kind: u8, value: u64, known: u8, ucid: u8)
+            -> Choice;
         pub fn dsg_judge(
             table: *const Table,
             kind: u8,
@@ -97,14 +101,45 @@ mod raw {
             frame: *const u8,
             length: usize,
         ) -> Judged;
-        pub fn dsg_prepare(table: *const Table, kind: u8, value: u64, known: u8, ucid: u8) -> Tunnel;
-        pub fn dsg_judge_prepared(tunnel: *const Tunnel, frame: *const u8, length: usize) -> Judged;
-        pub fn dsg_event(modem: *mut Modem, clock: u32, event: u8, a: u16, b: u16, c: u16, d: u16) -> u32;
-        pub fn dsg_transmits(modem: *const Modem) -> u8;
-        pub fn dsg_forwards(modem: *const Modem) -> u8;
-        pub fn dsg_list_body(body: *const u8, body_length: usize, out: *mut u8, out_length: usize) -> Listed;
-        pub fn dsg_list_table(table: *const Table, count: u8, out: *mut u8, out_length: usize) -> Listed;
+        pub fn dsg_prepare(
+            table: *const Table,
+            kind: u8,
+            value: u64,
+            known: u8,
+            ucid: u8,
+        ) -> Tunnel;
+        pub fn dsg_judge_prepared(tunnel: *const Tunnel, frame: *const u8, length: usize)
+            -> Judged;
+        pub fn dsg_event(
+            modem: *mut Modem,
+            clock: u32,
+            event: u8,
+            a: u16,
+            b: u16,
+            c: u16,
+            d: u16,
+        ) -> u32;
+        pub fn dsg_transmits(modem: *const Modem) -> bool;
+        pub fn dsg_forwards(modem: *const Modem) -> bool;
+        pub fn dsg_list_body(
+            body: *const u8,
+            body_length: usize,
+            out: *mut u8,
+            out_length: usize,
+        ) -> Listed;
+        pub fn dsg_list_table(
+            table: *const Table,
+            count: u8,
+            out: *mut u8,
+            out_length: usize,
+        ) -> Listed;
     }
+}
+
+/// A collection record with nothing collected.
+pub fn empty_collection() -> Collection {
+    // SAFETY: it takes nothing and returns a struct of numbers.
+    unsafe { raw::dsg_empty_collection() }
 }
 
 /// The table of the empty message.
@@ -202,13 +237,13 @@ pub fn event(modem: &mut Modem, clock: u32, event: u8, values: [u16; 4]) -> u32 
 /// Whether the transmitter is on.
 pub fn transmits(modem: &Modem) -> bool {
     // SAFETY: the pointer comes from a reference that lives through the call; it is only read.
-    unsafe { raw::dsg_transmits(modem) != 0 }
+    unsafe { raw::dsg_transmits(modem) }
 }
 
 /// Whether tunnels are forwarded.
 pub fn forwards(modem: &Modem) -> bool {
     // SAFETY: the pointer comes from a reference that lives through the call; it is only read.
-    unsafe { raw::dsg_forwards(modem) != 0 }
+    unsafe { raw::dsg_forwards(modem) }
 }
 
 /// What `dcdlist` writes for a body.

@@ -31,7 +31,10 @@ impl Error for Refusal {}
 
 /// A refusal by its number alone.
 fn refusal(number: u32, offset: usize) -> Refusal {
-    Refusal { number: number as u8, offset }
+    Refusal {
+        number: number as u8,
+        offset,
+    }
 }
 
 /// Fine where the number is 0, else the refusal.
@@ -63,9 +66,7 @@ impl From<ClientId> for Client {
         let (kind, value) = match id {
             ClientId::BroadcastAll => (0, 0),
             ClientId::Broadcast(n) => (1, u64::from(n)),
-            ClientId::WellKnownMac(mac) => {
-                (2, mac.iter().fold(0, |n, &b| n << 8 | u64::from(b)))
-            }
+            ClientId::WellKnownMac(mac) => (2, mac.iter().fold(0, |n, &b| n << 8 | u64::from(b))),
             ClientId::CaSystem(n) => (3, u64::from(n)),
             ClientId::Application(n) => (4, u64::from(n)),
         };
@@ -177,6 +178,12 @@ fn ucid_numbers(ucid: Option<u8>) -> (u8, u8) {
     ucid.map_or((0, 0), |u| (1, u))
 }
 
+/// A collection record with nothing collected.
+#[must_use]
+pub fn empty_collection() -> Collection {
+    ffi::empty_collection()
+}
+
 /// The table of the empty message.
 #[must_use]
 pub fn empty_table() -> Table {
@@ -204,7 +211,7 @@ pub fn collect(
     match answer.kind {
         0 => Err(refusal(answer.number, 0)),
         1 => Ok(Piece::Repeat),
-        2 => Ok(Piece::Waiting(answer.number as usize)),
+        2 => Ok(Piece::Waiting(answer.empty)),
         3 => Ok(Piece::Complete(Part::Body(part))),
         _ => Ok(Piece::Complete(Part::Join(part))),
     }
@@ -233,7 +240,7 @@ pub fn receive(
     let answer = ffi::receive(held, table, slots, join, body);
     match answer.kind {
         1 => Ok(Received::Repeat),
-        2 => Ok(Received::Waiting(answer.number as usize)),
+        2 => Ok(Received::Waiting(answer.empty)),
         3 => Ok(Received::Accepted),
         _ => Err(refusal(answer.number, answer.offset)),
     }
@@ -243,15 +250,19 @@ pub fn receive(
 ///
 /// # Errors
 /// 17: no rule fits.
-pub fn choose_rule(table: &Table, client: impl Into<Client>, ucid: Option<u8>) -> Result<usize, Refusal> {
+pub fn choose_rule(
+    table: &Table,
+    client: impl Into<Client>,
+    ucid: Option<u8>,
+) -> Result<usize, Refusal> {
     let Client { kind, value } = client.into();
     let (known, ucid) = ucid_numbers(ucid);
     let answer = ffi::choose(table, kind, value, known, ucid);
-    checked(answer.number, 0).map(|()| answer.place as usize)
+    checked(answer.number, 0).map(|()| answer.place)
 }
 
 /// The verdict that the library's answer stands for.
-fn verdict(answer: ffi::Judged, frame: &[u8]) -> Result<Verdict, Refusal> {
+fn verdict(answer: ffi::Judged, frame: &[u8]) -> Result<Verdict<'_>, Refusal> {
     match answer.kind {
         0 => Err(refusal(answer.number, 0)),
         1 => Ok(Verdict::Other),

@@ -58,7 +58,13 @@ impl Receiver {
     /// # Errors
     /// The refusal of the body, or of the message that it completed; the table stays.
     pub fn receive(&mut self, body: &[u8]) -> Result<Received, Refusal> {
-        lent::receive(&mut self.held, &mut self.table, &mut self.slots, &mut self.join, body)
+        lent::receive(
+            &mut self.held,
+            &mut self.table,
+            &mut self.slots,
+            &mut self.join,
+            body,
+        )
     }
 
     /// The table of the last message that was accepted.
@@ -71,6 +77,13 @@ impl Receiver {
 impl Default for Receiver {
     fn default() -> Self {
         Receiver::new()
+    }
+}
+
+impl Default for Collection {
+    /// Nothing collected.
+    fn default() -> Self {
+        lent::empty_collection()
     }
 }
 

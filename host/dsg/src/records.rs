@@ -110,7 +110,7 @@ pub struct Table {
 
 /// What has been collected of a message.
 #[repr(C)]
-#[derive(Clone, Copy, Debug, Default, PartialEq, Eq)]
+#[derive(Clone, Copy, Debug, PartialEq, Eq)]
 pub struct Collection {
     /// The change count of the held pieces.
     pub count: u8,
@@ -164,4 +164,32 @@ pub struct Modem {
     pub hasucid: u8,
     /// The UCID, where `hasucid` is 1.
     pub ucid: u8,
+}
+
+/// The tunnel of a client, prepared: the choice made, the rule's classifiers looked up, in matching order.
+///
+/// [`crate::lent::prepare_tunnel`] makes it; any other value of its fields has a meaning too.
+#[repr(C)]
+#[derive(Clone, Copy, Debug, PartialEq, Eq)]
+pub struct Tunnel {
+    /// The tunnel address.
+    pub address: u64,
+    /// Whether no rule fits, the rule names no classifier, or its classifiers decide.
+    pub mode: u8,
+    /// How many places of the lists are used.
+    pub count: u8,
+    /// The destination addresses.
+    pub destinations: [u32; TABLE_ROOM],
+    /// The source addresses.
+    pub sources: [u32; TABLE_ROOM],
+    /// The masks that the packet's source is taken under.
+    pub masks: [u32; TABLE_ROOM],
+    /// The first ports.
+    pub starts: [u16; TABLE_ROOM],
+    /// The last ports.
+    pub ends: [u16; TABLE_ROOM],
+    /// The classifiers' numbers.
+    pub numbers: [u16; TABLE_ROOM],
+    /// Whether the ports are tested.
+    pub ports: [u8; TABLE_ROOM],
 }

@@ -4,7 +4,10 @@
 pub const LONGEST: usize = 23_952;
 
 fn element(kind: u8, value: &[u8]) -> Vec<u8> {
-    let mut bytes = vec![kind, u8::try_from(value.len()).expect("a value of at most 254 bytes")];
+    let mut bytes = vec![
+        kind,
+        u8::try_from(value.len()).expect("a value of at most 254 bytes"),
+    ];
     bytes.extend_from_slice(value);
     bytes
 }
@@ -29,12 +32,15 @@ fn classifier_children(number: u16) -> Vec<Vec<u8>> {
         element(9, &[0x10, 0]),
         element(10, &[0x1F, 0xFF]),
     ];
-    vec![element(2, &number.to_be_bytes()), element(5, &[number as u8]), row(9, &ip)]
+    vec![
+        element(2, &number.to_be_bytes()),
+        element(5, &[number as u8]),
+        row(9, &ip),
+    ]
 }
 
 fn rule_children(number: u8, numbers: &[u16]) -> Vec<Vec<u8>> {
-    let clients: Vec<Vec<u8>> =
-        (0..8).map(|i| element(4, &[number, i])).collect();
+    let clients: Vec<Vec<u8>> = (0..8).map(|i| element(4, &[number, i])).collect();
     let ucids: Vec<u8> = (1..=16).collect();
     let mut children = vec![
         element(1, &[number]),
@@ -52,8 +58,9 @@ fn numbers_of(rule: u8) -> Vec<u16> {
 }
 
 fn configuration() -> Vec<u8> {
-    let mut children: Vec<Vec<u8>> =
-        (1..=32u32).map(|n| element(1, &(n * 25_000_000).to_be_bytes())).collect();
+    let mut children: Vec<Vec<u8>> = (1..=32u32)
+        .map(|n| element(1, &(n * 25_000_000).to_be_bytes()))
+        .collect();
     children.extend((2..=5).map(|kind| element(kind, &[1, 0])));
     row(51, &children)
 }
@@ -61,8 +68,8 @@ fn configuration() -> Vec<u8> {
 /// A message with `rules` rules and as many classifiers, each with all it may hold, and 32 channels.
 pub fn table_message(rules: u8) -> Vec<u8> {
     let mut message = configuration();
-    for n in 0..32 {
-        message.extend(row(23, &classifier_children(u16::from(n) + 1)));
+    for number in 1..=32 {
+        message.extend(row(23, &classifier_children(number)));
     }
     for n in 0..rules {
         message.extend(row(50, &rule_children(n, &numbers_of(n))));
@@ -73,8 +80,8 @@ pub fn table_message(rules: u8) -> Vec<u8> {
 /// The longest message, of rows that are as long as they may be, and then of long unlisted elements.
 pub fn long_rows() -> Vec<u8> {
     let mut message = configuration();
-    for n in 0..32 {
-        message.extend(filled_row(23, &classifier_children(u16::from(n) + 1)));
+    for number in 1..=32 {
+        message.extend(filled_row(23, &classifier_children(number)));
     }
     for n in 0..32 {
         message.extend(filled_row(50, &rule_children(n, &numbers_of(n))));

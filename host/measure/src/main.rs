@@ -11,12 +11,17 @@ use std::hint::black_box;
 
 /// The client that only rule `n` of the measured tables lists.
 fn client(n: u8) -> Client {
-    Client { kind: 4, value: u64::from(n) << 8 | 3 }
+    Client {
+        kind: 4,
+        value: u64::from(n) << 8 | 3,
+    }
 }
 
 fn full_table() -> Table {
     let mut table = Table::default();
-    table.read(&table_message(32)).expect("the full table is accepted");
+    table
+        .read(&table_message(32))
+        .expect("the full table is accepted");
     table
 }
 
@@ -55,7 +60,12 @@ fn collecting() {
             runner("plain", || {
                 let mut held = Collection::default();
                 for body in &bodies {
-                    black_box(plain::collect::collect(&mut held, &mut s2, &mut j2, black_box(body)));
+                    black_box(plain::collect::collect(
+                        &mut held,
+                        &mut s2,
+                        &mut j2,
+                        black_box(body),
+                    ));
                 }
             }),
             runner("memcpy", || {
@@ -96,7 +106,12 @@ fn repeating() {
                 black_box(lent::collect(&mut h1, &mut s1, &mut j1, black_box(&bodies[0])).is_ok());
             }),
             runner("plain", || {
-                black_box(plain::collect::collect(&mut h2, &mut s2, &mut j2, black_box(&bodies[0])));
+                black_box(plain::collect::collect(
+                    &mut h2,
+                    &mut s2,
+                    &mut j2,
+                    black_box(&bodies[0]),
+                ));
             }),
             runner("memcmp", || {
                 black_box(black_box(&bodies[0])[3..] == *black_box(&slot));
@@ -107,7 +122,9 @@ fn repeating() {
 
 fn choosing(rules: u8) {
     let mut table = Table::default();
-    table.read(&table_message(rules)).expect("the table is accepted");
+    table
+        .read(&table_message(rules))
+        .expect("the table is accepted");
     report(
         &format!("choosing, {rules} rules of 8 clients"),
         1,
@@ -116,7 +133,11 @@ fn choosing(rules: u8) {
                 black_box(lent::choose_rule(black_box(&table), client(rules - 1), Some(4)).is_ok());
             }),
             runner("plain", || {
-                black_box(plain::judge::choose_rule(black_box(&table), client(rules - 1), Some(4)));
+                black_box(plain::judge::choose_rule(
+                    black_box(&table),
+                    client(rules - 1),
+                    Some(4),
+                ));
             }),
         ],
     );
@@ -140,11 +161,17 @@ fn judging() {
             1,
             vec![
                 runner("library", || {
-                    let verdict = lent::judge_frame(black_box(&table), client(9), Some(4), black_box(&frame));
+                    let verdict =
+                        lent::judge_frame(black_box(&table), client(9), Some(4), black_box(&frame));
                     black_box(verdict.is_ok());
                 }),
                 runner("plain", || {
-                    let verdict = plain::judge::judge_frame(black_box(&table), client(9), Some(4), black_box(&frame));
+                    let verdict = plain::judge::judge_frame(
+                        black_box(&table),
+                        client(9),
+                        Some(4),
+                        black_box(&frame),
+                    );
                     black_box(verdict);
                 }),
             ],
@@ -165,7 +192,10 @@ fn judging_prepared() {
                     black_box(lent::judge_prepared(black_box(&ours), black_box(&frame)).is_ok());
                 }),
                 runner("plain", || {
-                    black_box(plain::judge::judge_prepared(black_box(&theirs), black_box(&frame)));
+                    black_box(plain::judge::judge_prepared(
+                        black_box(&theirs),
+                        black_box(&frame),
+                    ));
                 }),
             ],
         );
@@ -178,7 +208,11 @@ fn judging_prepared() {
                 black_box(lent::prepare_tunnel(black_box(&table), client(9), Some(4)));
             }),
             runner("plain", || {
-                black_box(plain::judge::prepare_tunnel(black_box(&table), client(9), Some(4)));
+                black_box(plain::judge::prepare_tunnel(
+                    black_box(&table),
+                    client(9),
+                    Some(4),
+                ));
             }),
         ],
     );
@@ -256,11 +290,17 @@ fn main() {
     reading("reading the empty message", &[]);
     for rules in [1, 4, 8, 16, 32] {
         let message = table_message(rules);
-        reading(&format!("reading {rules} rules, {} bytes", message.len()), &message);
+        reading(
+            &format!("reading {rules} rules, {} bytes", message.len()),
+            &message,
+        );
     }
     reading(&format!("reading real rows, {LONGEST} bytes"), &long_rows());
     for bytes in [1_500, 6_000, 12_000, LONGEST] {
-        reading(&format!("reading unlisted elements, {bytes} bytes"), &unlisted(bytes));
+        reading(
+            &format!("reading unlisted elements, {bytes} bytes"),
+            &unlisted(bytes),
+        );
     }
     collecting();
     repeating();

@@ -16,7 +16,10 @@ pub struct Runner<'a> {
 
 /// A runner that does its work once for each call.
 pub fn runner<'a>(name: &'static str, work: impl FnMut() + 'a) -> Runner<'a> {
-    Runner { name, work: Box::new(work) }
+    Runner {
+        name,
+        work: Box::new(work),
+    }
 }
 
 impl Runner<'_> {
@@ -58,7 +61,10 @@ fn median(mut samples: Vec<f64>) -> f64 {
 /// Measures the runners and prints a line: each one's time, and the first one's ratio to each other.
 /// `per` is how many pieces of work a call does.
 pub fn report(what: &str, per: usize, mut runners: Vec<Runner>) {
-    let times: Vec<f64> = medians(&mut runners).iter().map(|t| t / per as f64).collect();
+    let times: Vec<f64> = medians(&mut runners)
+        .iter()
+        .map(|t| t / per as f64)
+        .collect();
     let mut line = format!("{what:<44}");
     for (runner, time) in runners.iter().zip(&times) {
         line += &format!("  {} {:>9}", runner.name, nanoseconds(*time));

@@ -37,11 +37,16 @@ fn refusal(slots: &[u8], join: &[u8], body: &[u8]) -> u8 {
 fn well_made(held: &Collection) -> bool {
     let number = usize::from(held.number);
     number <= 16
-        && held.filled.iter().zip(&held.lengths).enumerate().all(|(k, (&f, &n))| match f {
-            0 => n == 0,
-            1 => k < number && n <= 1497,
-            _ => false,
-        })
+        && held
+            .filled
+            .iter()
+            .zip(&held.lengths)
+            .enumerate()
+            .all(|(k, (&f, &n))| match f {
+                0 => n == 0,
+                1 => k < number && n <= 1497,
+                _ => false,
+            })
         && held.filled.contains(&1)
 }
 
@@ -61,7 +66,11 @@ pub fn collect(held: &mut Collection, slots: &mut [u8], join: &mut [u8], body: &
         anew = true;
     }
     if anew {
-        *held = Collection { count: body[0], number: body[1], ..Collection::default() };
+        *held = Collection {
+            count: body[0],
+            number: body[1],
+            ..Collection::default()
+        };
     }
     held.filled[k] = 1;
     held.lengths[k] = piece.len() as u16;

@@ -32,6 +32,11 @@ pub fn list_table(count: u8, table: &Table, out: &mut [u8]) -> Option<usize> {
         writeln!(text, "channel {hertz}").ok()?;
     }
     let t = table.timers;
-    writeln!(text, "timers {} {} {} {}", t.tdsg1, t.tdsg2, t.tdsg3, t.tdsg4).ok()?;
+    writeln!(
+        text,
+        "timers {} {} {} {}",
+        t.tdsg1, t.tdsg2, t.tdsg3, t.tdsg4
+    )
+    .ok()?;
     Some(text.position() as usize)
 }

@@ -80,7 +80,14 @@ fn accept(m: &mut Modem, values: [u16; 4]) {
     m.tdsg3 = values[2];
     m.tdsg4 = values[3];
     if m.state == state::CHECKING {
-        enter(m, if m.permission == 1 { state::RANGING } else { state::ONE_WAY });
+        enter(
+            m,
+            if m.permission == 1 {
+                state::RANGING
+            } else {
+                state::ONE_WAY
+            },
+        );
     }
     load_receive(m, m.tdsg2);
 }

@@ -31,7 +31,13 @@ struct Known {
 }
 
 const fn known(kind: u8, length: Length, must: bool, room: u8, value: Value) -> Known {
-    Known { kind, length, must, room, value }
+    Known {
+        kind,
+        length,
+        must,
+        room,
+        value,
+    }
 }
 
 #[derive(Clone, Copy, PartialEq)]
@@ -107,7 +113,12 @@ pub fn empty_table() -> Table {
         rulecount: 0,
         classifiercount: 0,
         channelcount: 0,
-        timers: TimerValues { tdsg1: 2, tdsg2: 600, tdsg3: 300, tdsg4: 1800 },
+        timers: TimerValues {
+            tdsg1: 2,
+            tdsg2: 600,
+            tdsg3: 300,
+            tdsg4: 1800,
+        },
         channels: [0; TABLE_ROOM],
         classifiers: [Classifier::default(); TABLE_ROOM],
         rules: [Rule::default(); TABLE_ROOM],
@@ -186,7 +197,7 @@ impl Reader<'_> {
             Value::NotZero => value.is_empty() || number(value) != 0,
             Value::Channel => {
                 let hertz = number(value);
-                hertz % 62_500 == 0 && (62_500..=1_000_000_000).contains(&hertz)
+                hertz.is_multiple_of(62_500) && (62_500..=1_000_000_000).contains(&hertz)
             }
         };
         if !allowed {
@@ -241,7 +252,10 @@ impl Reader<'_> {
             }
             (Row::Clients, _) => {
                 let kind = if value.is_empty() { 0 } else { kind };
-                let client = Client { kind, value: number(value) };
+                let client = Client {
+                    kind,
+                    value: number(value),
+                };
                 self.rule.clients[usize::from(self.rule.clientcount)] = client;
                 self.rule.clientcount += 1;
             }
@@ -262,7 +276,10 @@ impl Reader<'_> {
         self.rule = Rule::default();
         self.row(Row::Rule, at, at + 2, next)?;
         let n = usize::from(self.table.rulecount);
-        if self.table.rules[..n].iter().any(|r| r.number == self.rule.number) {
+        if self.table.rules[..n]
+            .iter()
+            .any(|r| r.number == self.rule.number)
+        {
             return Err((14, at));
         }
         self.table.rules[n] = self.rule;
@@ -274,7 +291,10 @@ impl Reader<'_> {
         self.classifier = Classifier::default();
         self.row(Row::Classifier, at, at + 2, next)?;
         let n = usize::from(self.table.classifiercount);
-        if self.table.classifiers[..n].iter().any(|c| c.number == self.classifier.number) {
+        if self.table.classifiers[..n]
+            .iter()
+            .any(|c| c.number == self.classifier.number)
+        {
             return Err((14, at));
         }
         self.table.classifiers[n] = self.classifier;
@@ -288,7 +308,9 @@ impl Reader<'_> {
         let rules = &self.table.rules[..usize::from(self.table.rulecount)];
         rules.iter().enumerate().find_map(|(i, rule)| {
             let numbers = &rule.numbers[..usize::from(rule.numbercount)];
-            let j = numbers.iter().position(|n| classifiers.iter().all(|c| c.number != *n))?;
+            let j = numbers
+                .iter()
+                .position(|n| classifiers.iter().all(|c| c.number != *n))?;
             Some(self.place_of(i, j))
         })
     }
@@ -297,7 +319,12 @@ impl Reader<'_> {
     fn place_of(&self, i: usize, j: usize) -> usize {
         let all = self.message.len();
         let rule = self.nth(0, all, 50, i);
-        self.nth(rule + 2, rule + 2 + usize::from(self.message[rule + 1]), 6, j)
+        self.nth(
+            rule + 2,
+            rule + 2 + usize::from(self.message[rule + 1]),
+            6,
+            j,
+        )
     }
 
     /// Where the `n`th element of a type stands in a row that was read.
