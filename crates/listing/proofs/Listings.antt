@@ -1,0 +1,38 @@
+-- Laws of `listing` (specs/Listing.antt), and of lines written one behind the other.
+--
+--   listing-refused   a short buffer                 listing-text    the text was written from 0 on
+--   lined-then        two texts that are short, one behind the other
+-- Trusts: nothing.
+use Prim.Native.Nat.{ℕ, _+_, _≤_, _<_}
+use mathlib.Core.Path.{_≡_, refl, sym, ap, _∙_}
+use mathlib.Core.List.{List, _++_}
+use native.Mathlib.Omega.{arith}
+use native.Mathlib.Nat.{zero-add}
+use borrow.Author.Tests.{lt-ltb, le-ltb}
+use lib.ListN.{length, drop}
+use Rattle.wire.proofs.Laws.{pasted-fits, length-pasted}
+use Rattle.listing.specs.declared.Listed.{Listed}
+use Rattle.listing.specs.declared.Listed.the-variants.{Text, Refused}
+use Rattle.listing.specs.Listing.{Listing, listing}
+use Rattle.listing.specs.Writing.{Lined}
+use Rattle.listing.proofs.Lengths.{join-short}
+use Rattle.listing.proofs.Written.{fits-most, wrote-then}
+
+pub listing-refused : (text out : List ℕ) → length out < 3755 → record { answer = Refused 100; out = out } ≡ listing text out
+unfolding listing
+listing-refused text out h = rw (lt-ltb (length out) 3755 h) refl
+
+pub listing-text : {most : ℕ} {text out new : List ℕ} {next : ℕ} → 3755 ≤ length out → most ≤ 3755 → Lined most out 0 text new next → record { answer = Text next; out = new } ≡ listing text out
+unfolding listing
+listing-text {most} {text} {out} {new} {next} h m w =
+    let place : next ≡ length text = w .wrote .place ∙ zero-add (length text) in
+    let bytes : new ≡ text ++ drop (length text) out =
+    w .wrote .bytes ∙ pasted-fits out 0 text (omega (arith, w .short .bytes)) ∙ ap (λ (k : ℕ). text ++ drop k out) (zero-add (length text)) in
+    rw (le-ltb (length out) 3755 h, place, bytes) refl
+
+-- what follows the first text is told that it has room
+pub lined-then : {out : List ℕ} {at : ℕ} {s t new last : List ℕ} {next end : ℕ} (m n : ℕ) → at + (m + n) ≤ length out → Lined m out at s new next → (next + n ≤ length new → Lined n new next t last end) → Lined (m + n) out at (s ++ t) last end
+lined-then {out} {at} {s} m n h v follows =
+    let w = follows (omega (arith, v .wrote .place, v .short .bytes, ap length (v .wrote .bytes) ∙ length-pasted out at s)) in
+    let short = join-short m n (v .short) (w .short) in
+    record { wrote = wrote-then (fits-most (m + n) h short) (v .wrote) (w .wrote); short = short }

@@ -1,0 +1,24 @@
+-- Listing: a text in a lent buffer (the contract of every function that lists).
+--
+--   listing text out   a buffer under 3,755 bytes is refused by 100 and stays; else the text stands at its start, every other
+--                      byte is as it was, and the answer is the text's length
+--
+-- 3,755 bytes are what the longest listing of any table takes (proofs/Longest.antt). 100 is this crate's own number: the paper's end at 18,
+-- and its requests take 19 to 30.
+-- Trusts: nothing.
+use Prim.Native.Nat.{ℕ}
+use mathlib.Core.Bool.{cond}
+use mathlib.Core.List.{List, _++_}
+use lib.ListN.{length, drop}
+use lib.Dec.{ltb}
+use Rattle.listing.specs.declared.Listed.{Listed}
+use Rattle.listing.specs.declared.Listed.the-variants.{Text, Refused}
+
+-- the answer and the buffer after the call
+pub record Listing : Type 0 where
+  pub answer : Listed
+  pub out : List ℕ
+
+unfoldable pub listing : List ℕ → List ℕ → Listing
+listing text out =
+    cond (ltb (length out) 3755) (record { answer = Refused 100; out = out }) (record { answer = Text (length text); out = text ++ drop (length text) out })
