@@ -157,18 +157,18 @@ impl Event {
     /// The event's number and its values, as the header has them.
     fn numbers(self) -> (u8, [u16; 4]) {
         match self {
-            Event::Start { permitted } => (0, [u16::from(permitted), 0, 0, 0]),
-            Event::Locked => (1, [0; 4]),
-            Event::ScanEmpty => (2, [0; 4]),
-            Event::TableAccepted(values) => (3, values),
-            Event::Packet => (4, [0; 4]),
-            Event::Tick => (5, [0; 4]),
-            Event::Enable => (6, [0; 4]),
-            Event::UpstreamUp(ucid) => (7, [u16::from(ucid), 0, 0, 0]),
-            Event::UpstreamLost => (8, [0; 4]),
-            Event::Disable => (9, [0; 4]),
-            Event::Hunt => (10, [0; 4]),
-            Event::DownstreamLost => (11, [0; 4]),
+            Event::Start { permitted } => (1, [u16::from(permitted), 0, 0, 0]),
+            Event::Locked => (2, [0; 4]),
+            Event::ScanEmpty => (3, [0; 4]),
+            Event::TableAccepted(values) => (4, values),
+            Event::Packet => (5, [0; 4]),
+            Event::Tick => (6, [0; 4]),
+            Event::Enable => (7, [0; 4]),
+            Event::UpstreamUp(ucid) => (8, [u16::from(ucid), 0, 0, 0]),
+            Event::UpstreamLost => (9, [0; 4]),
+            Event::Disable => (10, [0; 4]),
+            Event::Hunt => (11, [0; 4]),
+            Event::DownstreamLost => (12, [0; 4]),
         }
     }
 }
