@@ -286,29 +286,48 @@ fn listing() {
     );
 }
 
-fn main() {
+fn reading_all() {
     reading("reading the empty message", &[]);
     for rules in [1, 4, 8, 16, 32] {
         let message = table_message(rules);
-        reading(
-            &format!("reading {rules} rules, {} bytes", message.len()),
-            &message,
-        );
+        let what = format!("reading {rules} rules, {} bytes", message.len());
+        reading(&what, &message);
     }
     reading(&format!("reading real rows, {LONGEST} bytes"), &long_rows());
     for bytes in [1_500, 6_000, 12_000, LONGEST] {
-        reading(
-            &format!("reading unlisted elements, {bytes} bytes"),
-            &unlisted(bytes),
-        );
+        let what = format!("reading unlisted elements, {bytes} bytes");
+        reading(&what, &unlisted(bytes));
     }
+}
+
+fn collecting_all() {
     collecting();
     repeating();
+}
+
+fn judging_all() {
     for rules in [1, 8, 32] {
         choosing(rules);
     }
     judging();
     judging_prepared();
-    modem_events();
-    listing();
+}
+
+/// What can be measured, by the word that names it.
+const PARTS: [(&str, fn()); 5] = [
+    ("read", reading_all),
+    ("collect", collecting_all),
+    ("judge", judging_all),
+    ("modem", modem_events),
+    ("list", listing),
+];
+
+/// Measures every part, or the one that the first argument names.
+fn main() {
+    let only = std::env::args().nth(1);
+    for (name, measure) in PARTS {
+        if only.as_deref().is_none_or(|only| only == name) {
+            measure();
+        }
+    }
 }

@@ -51,6 +51,7 @@ fn well_made(held: &Collection) -> bool {
 }
 
 /// One body: the answer, with the record and both buffers as it leaves them.
+#[inline(never)]
 pub fn collect(held: &mut Collection, slots: &mut [u8], join: &mut [u8], body: &[u8]) -> Answer {
     let refused = refusal(slots, join, body);
     if refused != 0 {

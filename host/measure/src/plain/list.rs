@@ -4,6 +4,7 @@ use dsg::records::Table;
 use std::io::{Cursor, Write};
 
 /// Writes the listing of a table at the buffer's start; says how many bytes, or nothing where it is too short.
+#[inline(never)]
 pub fn list_table(count: u8, table: &Table, out: &mut [u8]) -> Option<usize> {
     let rules = &table.rules[..usize::from(table.rulecount)];
     let classifiers = &table.classifiers[..usize::from(table.classifiercount)];

@@ -158,6 +158,7 @@ fn start(m: &mut Modem, clock: u32, permission: bool) {
 }
 
 /// One event on a lent record: 0, or 18 where the clock went back.
+#[inline(never)]
 pub fn on_event(m: &mut Modem, clock: u32, event: Event) -> u8 {
     if let Event::Start(permission) = event {
         start(m, clock, permission);

@@ -343,6 +343,7 @@ impl Reader<'_> {
 }
 
 /// Reads a message into the lent table, or refuses it and leaves the table as it was.
+#[inline(never)]
 pub fn read_table(lent: &mut Table, message: &[u8]) -> Result<(), Refusal> {
     if message.len() > 23_952 {
         return Err((3, 0));
