@@ -14,31 +14,31 @@ use mathlib.Core.List.{List, [], _∷_, _++_, append-assoc}
 use mathlib.Core.Logic.{_⊎_, inl, inr, ⊎-elim}
 use native.Mathlib.Omega.{arith}
 use native.Mathlib.Nat.{eq-or-lt-of-le, le-of-suc-le-suc}
-use borrow.Author.Tests.{leb-true, eqb-true}
+use borrow.Author.Tests.{leb-true}
 use lib.ListN.{length, getD, set, take, drop, length-append, length-take, length-drop}
 use lib.Seq.{length-take-le, drop-append-add, drop-drop, take-at, getD-set-same, getD-set-other}
 use lib.Dec.{ltb, leb, eqb}
 use Rattle.wire.specs.Bytes.{pasted}
-use Rattle.wire.proofs.Laws.{both, clash, pasted-fits, part-pasted, part-pasted-before, part-pasted-behind}
+use Rattle.wire.proofs.Laws.{both, pasted-fits, part-pasted, part-pasted-before, part-pasted-behind}
 use Rattle.collector.specs.Pieces.{isFilled, emptySlots, slotSound, soundTo, pieceAt, joined}
 
 -- ---- the slots of a record
 
-pub unfilled-le : (t : Bool) → cond t 0 1 ≤ 1
-unfilled-le true = omega arith
-unfilled-le false = omega arith
+pub one-le : (t : Bool) → cond t 1 0 ≤ 1
+one-le true = omega arith
+one-le false = omega arith
 
 pub emptySlots-le : (f : List ℕ) (n : ℕ) → emptySlots f n ≤ n
 unfolding emptySlots
 emptySlots-le f zero = omega arith
-emptySlots-le f (suc n) = omega (arith, emptySlots-le f n, unfilled-le (isFilled (getD f n 0)))
+emptySlots-le f (suc n) = omega (arith, emptySlots-le f n, one-le (eqb (getD f n 0) 0))
 
-pub emptySlots-lt : (f : List ℕ) (k n : ℕ) → isFilled (getD f k 0) ≡ true → k < n → emptySlots f n < n
+pub emptySlots-lt : (f : List ℕ) (k n : ℕ) → getD f k 0 ≡ 1 → k < n → emptySlots f n < n
 unfolding emptySlots
 emptySlots-lt f k zero e q = absurd (omega arith)
 emptySlots-lt f k (suc n) e q = ⊎-elim
-    (λ (x : k ≡ n). let z : isFilled (getD f n 0) ≡ true = rw x at e in rw z (omega (arith, emptySlots-le f n)))
-    (λ (x : k < n). omega (arith, emptySlots-lt f k n e x, unfilled-le (isFilled (getD f n 0))))
+    (λ (x : k ≡ n). let z : getD f n 0 ≡ 1 = rw x at e in rw z (omega (arith, emptySlots-le f n)))
+    (λ (x : k < n). omega (arith, emptySlots-lt f k n e x, one-le (eqb (getD f n 0) 0)))
     (eq-or-lt-of-le (le-of-suc-le-suc q))
 
 pub soundTo-at : (f l : List ℕ) (n m k : ℕ) → soundTo f l n m ≡ true → k < m → slotSound (getD f k 0) (getD l k 0) k n ≡ true
@@ -54,10 +54,10 @@ soundTo-all f l n zero h = refl
 soundTo-all f l n (suc m) h = rw (soundTo-all f l n m (λ k q. h k (omega arith)), h m (omega arith)) refl
 
 pub slotSound-len : (flag len k n : ℕ) → slotSound flag len k n ≡ true → len ≤ 1497
-slotSound-len flag len k n h = go (isFilled flag) h where
-  go : (t : Bool) → cond t (ltb k n && leb len 1497) (eqb flag 0 && eqb len 0) ≡ true → len ≤ 1497
-  go true g = leb-true len 1497 (both (ltb k n) (leb len 1497) g .1)
-  go false g = omega (arith, eqb-true len 0 (both (eqb flag 0) (eqb len 0) g .1))
+slotSound-len flag len k n h = go (isFilled flag) (leb-true _ _ (both (leb flag (cond (ltb k n) 1 0)) _ h .1)) where
+  go : (t : Bool) → len ≤ cond t 1497 0 → len ≤ 1497
+  go true g = g
+  go false g = omega arith
 
 -- ---- the pieces in the slot buffer, joined
 

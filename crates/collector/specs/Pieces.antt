@@ -1,8 +1,8 @@
 -- Pieces: what stands in the slots and in the two buffers (document 01, "Collecting pieces").
 --
---   isFilled flag              whether a slot's flag says that it is filled: 1 does, 0 says empty
+--   isFilled flag              whether a slot's flag says that it is filled: 1 does, 0 says empty, another says neither
 --   emptySlots filled n        how many of the first n slots are empty
---   slotSound flag len k n     a slot as calls leave it: empty with length 0, or one of the n, filled with at most 1,497 bytes
+--   slotSound flag len k n     a slot as calls leave it: its flag is 0, or 1 if it is one of the n; filled, it has at most 1,497 bytes, and empty, none
 --   soundTo filled lens n m    the first m slots are so
 --   pieceAt slots lens k       the piece in slot k: so many bytes from byte k x 1,500 of the slot buffer
 --   joined slots lens n        the pieces of the first n slots, one behind the other
@@ -21,11 +21,17 @@ isFilled flag = eqb flag 1
 
 unfoldable pub emptySlots : List ℕ → ℕ → ℕ
 emptySlots filled zero = 0
-emptySlots filled (suc n) = emptySlots filled n + cond (isFilled (getD filled n 0)) 0 1
+emptySlots filled (suc n) = emptySlots filled n + cond (eqb (getD filled n 0) 0) 1 0
 
--- a flag that is neither 0 nor 1 is no flag that calls leave
+-- the most that a flag, and a length, may be
+abbrev pub mostFlag : ℕ → ℕ → ℕ
+mostFlag k n = cond (ltb k n) 1 0
+
+abbrev pub mostLength : ℕ → ℕ
+mostLength flag = cond (isFilled flag) 1497 0
+
 abbrev pub slotSound : ℕ → ℕ → ℕ → ℕ → Bool
-slotSound flag len k n = cond (isFilled flag) (ltb k n && leb len 1497) (eqb flag 0 && eqb len 0)
+slotSound flag len k n = leb flag (mostFlag k n) && leb len (mostLength flag)
 
 unfoldable pub soundTo : List ℕ → List ℕ → ℕ → ℕ → Bool
 soundTo filled lens n zero = true

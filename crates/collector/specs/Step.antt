@@ -44,7 +44,7 @@ unfoldable pub refusalOf : ℕ → ℕ → List ℕ → ℕ
 refusalOf slots join body = cond (ltb slots 24000 || ltb join 24000) 1 (bodyRefusal body)
 
 unfoldable pub wellMade : Collection → Bool
-wellMade r = leb (r .number) 16 && (soundTo (r .filled) (r .lengths) (r .number) 16 && ltb (emptySlots (r .filled) (r .number)) (r .number))
+wellMade r = leb (r .number) 16 && (soundTo (r .filled) (r .lengths) (r .number) 16 && ltb (emptySlots (r .filled) 16) 16)
 
 -- whether the held collection is the one of this count and number
 unfoldable pub isOf : Collection → ℕ → ℕ → Bool

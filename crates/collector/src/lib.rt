@@ -13,7 +13,7 @@ ghost use Prim.Native.Nat.{ℕ, _-_, _*_, _+_, _≤_, _<_};
 ghost use mathlib.Core.List.{_++_};
 ghost use lib.ListN.{length, take, drop, getD};
 ghost use Rattle.wire.specs.Bytes.{pasted};
-ghost use Rattle.collector.specs.Pieces.{emptySlots, slotSound, soundTo, joined};
+ghost use Rattle.collector.specs.Pieces.{emptySlots, mostFlag, mostLength, slotSound, soundTo, joined};
 ghost use Rattle.collector.specs.Answers.{said, lentOf};
 ghost use Rattle.collector.specs.Duties.{Fits};
 ghost use Rattle.collector.specs.Step.{pieceOf, bodyRefusal, refusalOf, wellMade, relationOf, emptyCollection, noted, baseOf, After, collectStep};
@@ -49,7 +49,7 @@ pub enum Answer {
     // Its slot has these bytes already.
     Repeat,
     // Stored; so many slots are empty.
-    Waiting(usize),
+    Waiting(u8),
     // Stored, and none is missing: the length of the message.
     Complete(usize),
 }
@@ -91,14 +91,14 @@ fn note(held: Collection, k: usize, len: u16) -> Collection
 }
 
 // How many of the first `n` slots are empty.
-fn count_empty(filled: [u8; 16], n: usize) -> usize
+fn count_empty(filled: [u8; 16], n: usize) -> u8
     requires { ⌜ n ≤ 16 ⌝ }
     ensures { λ r. ⌜ r ≡ emptySlots filled n ⌝ }
 {
-    let mut empty: usize = 0;
+    let mut empty: u8 = 0;
     let mut k = 0;
     while k < n {
-        if filled[k] != 1 {
+        if filled[k] == 0 {
             empty += 1;
         }
         k += 1;
@@ -106,20 +106,28 @@ fn count_empty(filled: [u8; 16], n: usize) -> usize
     empty
 }
 
+// The greatest flag that slot `k` of `n` may have.
+fn most_flag(k: usize, n: usize) -> u8
+    ensures { λ r. ⌜ r ≡ mostFlag k n ⌝ }
+{
+    if k < n { 1 } else { 0 }
+}
+
+// The greatest length that a slot with this flag may have.
+fn most_length(flag: u8) -> u16
+    ensures { λ r. ⌜ r ≡ mostLength flag ⌝ }
+{
+    if flag == 1 { PIECE_BYTES } else { 0 }
+}
+
 // Whether slot `k` of `n` is as calls leave it.
 fn slot_sound(flag: u8, len: u16, k: usize, n: usize) -> bool
     ensures { λ r. ⌜ r ≡ slotSound flag len k n ⌝ }
 {
-    if flag == 1 {
-        if k < n {
-            return len <= PIECE_BYTES;
-        }
+    if most_flag(k, n) < flag {
         return false;
     }
-    if flag == 0 {
-        return len == 0;
-    }
-    false
+    len <= most_length(flag)
 }
 
 // Whether all sixteen slots are.
@@ -148,7 +156,7 @@ fn well_made(held: Collection) -> bool
         return false;
     }
     if all_sound(filled, lengths, n) {
-        return count_empty(filled, n) < n;
+        return count_empty(filled, 16) < 16;
     }
     false
 }

@@ -6,6 +6,8 @@ ghost use mathlib.Core.Path.{_≡_};
 ghost use Prim.Native.Nat.{min};
 ghost use Rattle.elements.specs.Elements.{headAt};
 
+pub mod types;
+
 // What stands at a place of a row.
 pub enum Head {
     // No byte is left: the row ends here.

@@ -26,8 +26,8 @@ unfolding emptySlots
 loop-again c =
     let f = getD (c .before .before .before .args .t1) (c .before .before .loop .k) 0 in
     ⊎-elim
-    (λ w. (omega arith, rw (add-one, ne-eqb f 1 (w .0 .taken)) (omega arith), omega arith))
-    (λ w. (omega arith, rw (add-one, eq-eqb f 1 (w .0 .left)) (omega arith), omega arith))
+    (λ w. (omega arith, rw (add-one, eq-eqb f 0 (w .0 .taken)) (omega arith), omega arith))
+    (λ w. (omega arith, rw (add-one, ne-eqb f 0 (w .0 .left)) (omega arith), omega arith))
     (c .if1 .came)
 
 returns : tie.Need-returns Inv-loop μ-loop

@@ -1,15 +1,17 @@
--- `collector::slot_sound` gives `slotSound`: one answer for each way through the tests.
+-- `collector::slot_sound` gives `slotSound`: the flag is tested, then the length.
 -- Trusts: nothing.
-use borrow.Author.Tests.{lt-ltb, le-ltb, eq-eqb, ne-eqb}
+use borrow.Author.Needs.{needs}
+use borrow.Author.Tests.{lt-leb, le-leb}
 use Rattle.collector.proofs.slot_sound.Statement.{statement}
 use Rattle.collector.proofs.slot_sound.Tie as tie
 
+-- a flag that it may not have
+returns : tie.Need-returns
+returns c = simp (← c .before .most-flag .ensures, lt-leb _ _ (c .if1 .taken))
+
+-- whether its length is one that it may have
+returns-2 : tie.Need-returns-2
+returns-2 c = simp (← c .before .before .most-flag .ensures, ← c .most-length .ensures, le-leb _ _ (c .before .if1 .left))
+
 pub slot-sound-spec : {M : Type 1} → statement M
-slot-sound-spec =
-    tie.close
-    (tie.spec
-    -- filled, among the n; filled, beyond them; empty; another flag
-    (λ c. simp (eq-eqb _ _ (c .before .if1 .taken), lt-ltb _ _ (c .if2 .taken)))
-    (λ c. simp (eq-eqb _ _ (c .before .if1 .taken), le-ltb _ _ (c .if2 .left)))
-    (λ c. simp (ne-eqb _ _ (c .before .if1 .left), eq-eqb _ _ (c .if3 .taken)))
-    (λ c. simp (ne-eqb _ _ (c .before .if1 .left), ne-eqb _ _ (c .if3 .left))))
+slot-sound-spec = tie.close (tie.spec (λ c κs. search needs) returns (λ c κs. search needs) returns-2)

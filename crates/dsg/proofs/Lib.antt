@@ -1,0 +1,2 @@
+-- Walk: the names that the walks of the exported functions share.
+pub mod Walk

@@ -1,0 +1,26 @@
+-- Tables: the numbers by which the answers of reading and listing cross to C (include/dsg.h).
+--
+--   listedAs l                 an answer of the listing: number 0 and the length of the text, or the refusal
+--   listAfter t count out      what a host has after `dsg_list_table`: the answer and the buffer
+--
+-- What an answer does not use is 0. Trusts: nothing.
+use Prim.Native.Nat.{ℕ}
+use mathlib.Core.List.{List}
+use Rattle.table.specs.declared.Table.{Table}
+use Rattle.listing.specs.Text.{tableText}
+use Rattle.listing.specs.Listing.{Written, text, refused, Listing, listing}
+use Rattle.dsg.specs.declared.tables.Listed.{Listed}
+
+abbrev pub listedAs : Written → Listed
+listedAs (text n) = record { number = 0; length = n }
+listedAs (refused n) = record { number = n; length = 0 }
+
+pub record ListAfter : Type 0 where
+  pub answer : Listed
+  pub out : List ℕ
+
+abbrev pub listingAs : Listing → ListAfter
+listingAs l = record { answer = listedAs (l .answer); out = l .out }
+
+abbrev pub listAfter : Table → ℕ → List ℕ → ListAfter
+listAfter t count out = listingAs (listing (tableText count t) out)

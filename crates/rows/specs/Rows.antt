@@ -1,0 +1,71 @@
+-- Rows: an element with all that stands in it, and a row of elements (document 01, "Elements" and the order of the tests).
+--
+--   rowStep rows ..                    THE RULE: a row, by its first element and what is left of it
+--   rowOf msg parent own at end t      the first refusal in the row `parent`, whose own type byte is at `own`, from `at` to `end`
+--   elementOf msg parent at len t      the same of the element at `at` in that row, with a value of len bytes; else the tally after it
+--   testedAt msg at t                  the same of the top-level element at `at`, tests 6 to 8 first, and the place after it
+--
+-- That rowOf is the rule over itself, however its steps are counted, is the law row-rule (proofs/Rule.antt).
+-- Not here: 14, 15, and what a row's elements leave in the table. Tested by: proofs/Bench.antt. Trusts: nothing.
+use Prim.Native.Nat.{ℕ, zero, suc, _+_, _-_}
+use mathlib.Core.Bool.{cond, not}
+use mathlib.Core.List.{List}
+use lib.ListN.{length, getD}
+use lib.Dec.{eqb}
+use Rattle.elements.specs.Elements.{headAt}
+use Rattle.elements.specs.Places.{typeUnder}
+use Rattle.elements.specs.declared.Head.{Head}
+use Rattle.elements.specs.declared.Head.the-variants.{End, Refused, Value}
+use Rattle.rows.specs.Tests.{refused, fine, ownTests, isRow, rowEnd, emptyTally}
+use Rattle.rows.specs.declared.Tally.{Tally}
+use Rattle.rows.specs.declared.Step.{Step}
+use Rattle.rows.specs.declared.Fault.{Fault}
+use Rattle.rows.specs.declared.Tested.{Tested}
+
+-- An element. A type not listed in the row is skipped; a listed one has its own tests, and then, where its value is a row, that
+-- row is read: `inside k` reads the value as the row of the type at place k.
+unfoldable pub elementWith : (ℕ → Fault) → List ℕ → ℕ → ℕ → ℕ → Tally → Step
+elementWith inside msg parent at len t =
+    let known = typeUnder parent (getD msg at 0) in
+    let own = ownTests msg known at len t in
+    let inner = inside (known .place) in
+    cond (eqb (known .place) 26) (fine at t)
+    (cond (not (eqb (own .bad) 0)) own
+    (cond (not (isRow (known .length))) own
+    (cond (not (eqb (inner .bad) 0)) (refused (inner .bad) (inner .off) t)
+    own)))
+
+-- a refused element refuses its row; else the row goes on with the tally after it
+abbrev pub goOn : Step → (Tally → Fault) → Fault
+goOn s rest = cond (not (eqb (s .bad) 0)) (record { bad = s .bad; off = s .off }) (rest (s .tally))
+
+abbrev pub onHead : Head → Fault → ℕ → (ℕ → Fault) → Fault
+onHead End ended at go = ended
+onHead (Refused n) ended at go = record { bad = n; off = at }
+onHead (Value len) ended at go = go len
+
+-- THE RULE. At the end of the row test 13; else tests 6 to 8, the element, and the row from the next element on. `rows` reads the
+-- shorter rows: the one inside the element, which begins with nothing counted, and the rest of this one.
+unfoldable pub rowStep : (ℕ → ℕ → ℕ → ℕ → Tally → Fault) → List ℕ → ℕ → ℕ → ℕ → ℕ → Tally → Fault
+rowStep rows msg parent own at end t =
+    onHead (headAt msg at end) (rowEnd parent own t) at
+    (λ len. goOn (elementWith (λ k. rows k at (at + 2) (at + 2 + len) emptyTally) msg parent at len t) (λ u. rows parent own (at + 2 + len) end u))
+
+-- the rule, as often as there are bytes left
+unfoldable pub rowFrom : ℕ → List ℕ → ℕ → ℕ → ℕ → ℕ → Tally → Fault
+rowFrom zero msg parent own at end t = rowEnd parent own t
+rowFrom (suc fuel) msg parent own at end t = rowStep (λ k o a e u. rowFrom fuel msg k o a e u) msg parent own at end t
+
+unfoldable pub rowOf : List ℕ → ℕ → ℕ → ℕ → ℕ → Tally → Fault
+rowOf msg parent own at end t = rowFrom (end - at) msg parent own at end t
+
+unfoldable pub elementOf : List ℕ → ℕ → ℕ → ℕ → Tally → Step
+elementOf msg parent at len t = elementWith (λ k. rowOf msg k at (at + 2) (at + 2 + len) emptyTally) msg parent at len t
+
+abbrev pub tested : Head → ℕ → Tally → (ℕ → Step) → Tested
+tested End at t step = record { bad = 0; off = at; next = at; tally = t }
+tested (Refused n) at t step = record { bad = n; off = at; next = at; tally = t }
+tested (Value len) at t step = record { bad = step len .bad; off = step len .off; next = at + 2 + len; tally = step len .tally }
+
+unfoldable pub testedAt : List ℕ → ℕ → Tally → Tested
+testedAt msg at t = tested (headAt msg at (length msg)) at t (λ len. elementOf msg 26 at len t)

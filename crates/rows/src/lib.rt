@@ -1,0 +1,279 @@
+// Tests one top-level element of a message and everything in it: refusals 6 to 13 of document 01, and where.
+//
+// One public function, `test_element`, which takes any message, any place and any tally: a refusal is
+// an answer. It takes nothing up and writes nothing.
+//
+// The element reader calls the row reader for a value that is a row, and the row reader calls it back for
+// each child; the bytes left fall at each call. The row reader is a loop, so the calls are only as deep as
+// rows stand in rows: by the table at most `row_from` for 23 and again for 23.9, or for 50 and 50.4, whatever
+// the length of the message.
+use elements::Head;
+use elements::types::Known;
+use elements::types::Length;
+use elements::types::Values;
+ghost use mathlib.Core.Path.{_≡_};
+ghost use Prim.Native.Nat.{_+_, _≤_, _<_};
+ghost use lib.ListN.{length};
+ghost use Rattle.rows.specs.Tests.{secondCopy, wrongLength, noChannel, badValue, isFull, ownTests, isRow, rowEnd, emptyTally};
+ghost use Rattle.rows.specs.Rows.{elementOf, rowOf, testedAt};
+
+// How many elements of each list stand before this one in its row. A type's list has a number in its row.
+pub struct Tally {
+    pub counts: [u8; 8],
+}
+
+// What an element comes to: 0 and the tally after it, or a refusal number, its offset and the tally before.
+pub struct Step {
+    pub bad: u8,
+    pub off: usize,
+    pub tally: Tally,
+}
+
+// What a row comes to: 0, or a refusal number and its offset.
+pub struct Fault {
+    pub bad: u8,
+    pub off: usize,
+}
+
+// What a top-level element comes to. `next` is the place after it, or its own where its head is refused.
+pub struct Tested {
+    pub bad: u8,
+    pub off: usize,
+    pub next: usize,
+    pub tally: Tally,
+}
+
+// Test 9.
+fn second_copy(repeats: bool, count: u8) -> bool
+    ensures { λ r. ⌜ r ≡ secondCopy repeats count ⌝ }
+{
+    !repeats && count != 0
+}
+
+// Test 10.
+fn wrong_length(allowed: Length, len: usize) -> bool
+    ensures { λ r. ⌜ r ≡ wrongLength allowed len ⌝ }
+{
+    match allowed {
+        Length::Row => false,
+        Length::Bytes(n) => len != n,
+        Length::NoneOr(n) => len != 0 && len != n,
+        Length::OrMore(n) => len < n,
+    }
+}
+
+// Whether a number is no channel's frequency.
+fn no_channel(hertz: u32) -> bool
+    ensures { λ r. ⌜ r ≡ noChannel hertz ⌝ }
+{
+    if hertz < 62500 {
+        return true;
+    }
+    if 1000000000 < hertz {
+        return true;
+    }
+    hertz % 62500 != 0
+}
+
+// Test 11.
+fn bad_value(message: &[u8], allowed: Values, at: usize, len: usize) -> bool
+    requires { ⌜ at + 2 + len ≤ length (now message) ⌝ }
+    ensures { λ r. ⌜ r ≡ badValue (now (message .entry)) allowed at len ⌝ }
+{
+    match allowed {
+        Values::Any => false,
+        Values::NotZero => len == 2 && wire::number2(message, at + 2) == 0,
+        Values::Channel => no_channel(wire::number4(message, at + 2)),
+    }
+}
+
+// Test 12.
+fn is_full(repeats: bool, room: u8, count: u8, len: usize) -> bool
+    ensures { λ r. ⌜ r ≡ isFull repeats room count len ⌝ }
+{
+    if repeats {
+        room <= count
+    } else {
+        (room as usize) < len
+    }
+}
+
+// Tests 9 to 12 of an element of a known type, and its tally.
+fn own_tests(message: &[u8], known: Known, at: usize, len: usize, tally: Tally) -> Step
+    requires { ⌜ (known .list < 8) × (at + 2 + len ≤ length (now message)) ⌝ }
+    ensures { λ r. ⌜ r ≡ ownTests (now (message .entry)) known at len tally ⌝ }
+{
+    let list = known.list;
+    let count = tally.counts[list];
+    if second_copy(known.repeats, count) {
+        return Step {
+            bad: 9,
+            off: at,
+            tally,
+        };
+    }
+    let lengths = known.length;
+    if wrong_length(lengths, len) {
+        return Step {
+            bad: 10,
+            off: at,
+            tally,
+        };
+    }
+    let values = known.values;
+    if bad_value(message, values, at, len) {
+        return Step {
+            bad: 11,
+            off: at,
+            tally,
+        };
+    }
+    if is_full(known.repeats, known.room, count, len) {
+        return Step {
+            bad: 12,
+            off: at,
+            tally,
+        };
+    }
+    let mut after = tally;
+    after.counts[list] = count + 1;
+    Step {
+        bad: 0,
+        off: at,
+        tally: after,
+    }
+}
+
+// Whether the value is a row of elements.
+fn is_row(allowed: Length) -> bool
+    ensures { λ r. ⌜ r ≡ isRow allowed ⌝ }
+{
+    match allowed {
+        Length::Row => true,
+        Length::Bytes(_) => false,
+        Length::NoneOr(_) => false,
+        Length::OrMore(_) => false,
+    }
+}
+
+// The tally of a row that begins.
+pub fn empty_tally() -> Tally
+    ensures { λ r. ⌜ r ≡ emptyTally ⌝ }
+{
+    Tally { counts: [0u8; 8] }
+}
+
+// The end of a row: test 13, at the row's own type byte.
+fn row_end(parent: usize, own: usize, tally: Tally) -> Fault
+    ensures { λ r. ⌜ r ≡ rowEnd parent own tally ⌝ }
+{
+    let counts = tally.counts;
+    if elements::types::lacks_must(parent, counts) {
+        return Fault { bad: 13, off: own };
+    }
+    Fault { bad: 0, off: own }
+}
+
+// The element reader. The element at `at` in the row `parent`, with a value of `len` bytes: its own tests,
+// and where its value is a row, that row.
+fn element(message: &[u8], parent: usize, at: usize, len: usize, tally: Tally) -> Step
+    requires { ⌜ at + 2 + len ≤ length (now message) ⌝ }
+    ensures { λ r. ⌜ r ≡ elementOf (now (message .entry)) parent at len tally ⌝ }
+{
+    let known = elements::types::find_type(parent, message[at]);
+    let place = known.place;
+    if place == elements::types::UNLISTED {
+        return Step {
+            bad: 0,
+            off: at,
+            tally,
+        };
+    }
+    let own = own_tests(message, known, at, len, tally);
+    if own.bad != 0 {
+        return own;
+    }
+    let lengths = known.length;
+    if !is_row(lengths) {
+        return own;
+    }
+    let inner = row_from(message, place, at, at + 2, at + 2 + len, empty_tally());
+    if inner.bad != 0 {
+        return Step {
+            bad: inner.bad,
+            off: inner.off,
+            tally,
+        };
+    }
+    own
+}
+
+// The row reader. The row `parent`, whose own type byte is at `own`, from `from` to `end`.
+fn row_from(
+    message: &[u8],
+    parent: usize,
+    own: usize,
+    from: usize,
+    end: usize,
+    tally: Tally,
+) -> Fault
+    ensures { λ r. ⌜ r ≡ rowOf (now (message .entry)) parent own from end tally ⌝ }
+{
+    let mut at = from;
+    let mut counted = tally;
+    loop {
+        match elements::read_head(message, at, end) {
+            Head::End => {
+                return row_end(parent, own, counted);
+            }
+            Head::Refused(number) => {
+                return Fault {
+                    bad: number,
+                    off: at,
+                };
+            }
+            Head::Value(len) => {
+                let step = element(message, parent, at, len, counted);
+                if step.bad != 0 {
+                    return Fault {
+                        bad: step.bad,
+                        off: step.off,
+                    };
+                }
+                counted = step.tally;
+                at = at + 2 + len;
+            }
+        }
+    }
+}
+
+// The top-level element at `at`, after those that `tally` counts: the first refusal of 6 to 13 in it, or 0.
+// Past the last element the answer is 0 and nothing changes.
+pub fn test_element(message: &[u8], at: usize, tally: Tally) -> Tested
+    ensures { λ r. ⌜ r ≡ testedAt (now (message .entry)) at tally ⌝ }
+{
+    match elements::read_head(message, at, message.len()) {
+        Head::End => Tested {
+            bad: 0,
+            off: at,
+            next: at,
+            tally,
+        },
+        Head::Refused(number) => Tested {
+            bad: number,
+            off: at,
+            next: at,
+            tally,
+        },
+        Head::Value(len) => {
+            let step = element(message, elements::types::TOP_LEVEL, at, len, tally);
+            let after = step.tally;
+            Tested {
+                bad: step.bad,
+                off: step.off,
+                next: at + 2 + len,
+                tally: after,
+            }
+        }
+    }
+}
