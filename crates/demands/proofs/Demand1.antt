@@ -47,8 +47,7 @@ use Rattle.modem.specs.declared.Stepped.{Stepped}
 use Rattle.modem.specs.Record.{countsIdle}
 use Rattle.modem.specs.Events.{eventOn}
 use Rattle.modem.specs.Step.{isStart, isBack, aged, steppedModem}
-use Rattle.listing.specs.declared.Listed.{Listed}
-use Rattle.listing.specs.declared.Listed.the-variants as listed
+use Rattle.listing.specs.Listing as listed
 use Rattle.listing.specs.Listing.{Listing, listing}
 
 -- ---- collecting pieces
@@ -147,11 +146,11 @@ steppedModem-refused m now ev = go (not (isStart ev) && countsIdle m) (not (isSt
 -- ---- listing
 
 abbrev listedIf : Bool → List ℕ → List ℕ → Listing
-listedIf t text out = cond t (record { answer = listed.Refused 100; out = out }) (record { answer = listed.Text (length text); out = text ++ drop (length text) out })
+listedIf t text out = cond t (record { answer = listed.refused 100; out = out }) (record { answer = listed.text (length text); out = text ++ drop (length text) out })
 
-pub listing-refused : (text out : List ℕ) (n : ℕ) → listing text out .answer ≡ listed.Refused n → (listing text out .out ≡ out) × (n ≡ 100)
+pub listing-refused : (text out : List ℕ) (n : ℕ) → listing text out .answer ≡ listed.refused n → (listing text out .out ≡ out) × (n ≡ 100)
 unfolding listing
 listing-refused text out n = go (ltb (length out) 3755) where
-  go : (t : Bool) → listedIf t text out .answer ≡ listed.Refused n → (listedIf t text out .out ≡ out) × (n ≡ 100)
+  go : (t : Bool) → listedIf t text out .answer ≡ listed.refused n → (listedIf t text out .out ≡ out) × (n ≡ 100)
   go true e = (refl, cc)
   go false e = absurd (let z : _≡_ {A = ℕ} 0 1 = cc in omega arith)

@@ -5,14 +5,13 @@
 -- answer of the collector what it says: `said-only` of crate collector_demands, proofs/Controls.antt, is that this is the answer.
 -- Not here: `main` of dcdlist, whose contract can say nothing of what is read or written (docs/CONTRACTS.md).
 -- Trusts: nothing.
-use Prim.Native.Nat.{ℕ}
-use mathlib.Core.List.{List}
+use mathlib.Core.List.{_++_}
 use contract.Lifetimes.{Lfts}
 use denote.Ref.{now}
 use Rattle.demands.proofs.Contract.{One, only, answer}
 use Rattle.demands.proofs.Parts as parts
 use Rattle.demands.proofs.Demand2 as demand2
-use Rattle.listing.specs.Listing.{Listing}
+use Rattle.listing.specs.Listing.{Listing, written}
 use Rattle.collector.specs.Answers.{said}
 use Rattle.collector.specs.Step.{After}
 use Rattle.modem.specs.declared.Stepped.{Stepped}
@@ -128,7 +127,7 @@ collect-one κs = only (demand2.collect-gives κs)
 pub message-one : (κs : Lfts 1) → One (λ x s. now x) (message.Post κs)
 message-one κs = only (demand2.message-gives κs)
 
-pub collect_lent-one : (κs : Lfts 3) → One {L = After × List ℕ} (λ x s. (record { answer = said (x .outcome .answer); held = x .outcome .held; slots = now (s .1 .0); join = now (x .join) }, now (x .body))) (demand2.CollectLent κs)
+pub collect_lent-one : (κs : Lfts 3) → One {L = demand2.Parts} (λ x s. record { after = record { answer = said (x .outcome .answer); held = x .outcome .held; slots = now (s .1 .0); join = now (x .joined) ++ now (x .rest) }; own = now (x .own); joined = now (x .joined); rest = now (x .rest) }) (demand2.CollectLent κs)
 collect_lent-one κs = only (demand2.collect_lent-gives κs)
 
 -- ---- choice
@@ -178,11 +177,11 @@ on_event-one κs = only (demand2.on_event-gives κs)
 
 -- ---- listing
 
-pub list_table-one : (κs : Lfts 1) → One {L = Listing} (λ x s. record { answer = x; out = now (s .1 .1 .0) }) (list_table.Post κs)
+pub list_table-one : (κs : Lfts 1) → One {L = Listing} (λ x s. record { answer = written x; out = now (s .1 .1 .0) }) (list_table.Post κs)
 list_table-one κs = only (parts.list_table-gives κs)
 
-pub list_refusal-one : (κs : Lfts 1) → One {L = Listing} (λ x s. record { answer = x; out = now (s .1 .1 .0) }) (list_refusal.Post κs)
+pub list_refusal-one : (κs : Lfts 1) → One {L = Listing} (λ x s. record { answer = written x; out = now (s .1 .1 .0) }) (list_refusal.Post κs)
 list_refusal-one κs = only (parts.list_refusal-gives κs)
 
-pub list_waiting-one : (κs : Lfts 1) → One {L = Listing} (λ x s. record { answer = x; out = now (s .1 .0) }) (list_waiting.Post κs)
+pub list_waiting-one : (κs : Lfts 1) → One {L = Listing} (λ x s. record { answer = written x; out = now (s .1 .0) }) (list_waiting.Post κs)
 list_waiting-one κs = only (parts.list_waiting-gives κs)

@@ -37,7 +37,7 @@ use Rattle.contents.proofs.rule_at.Reads as rule_at
 use Rattle.contents.proofs.classifier_at.Reads as classifier_at
 use Rattle.contents.proofs.configuration_at.Reads as configuration_at
 use Rattle.listing.specs.Text.{tableText, refusalText, waitingText}
-use Rattle.listing.specs.Listing.{Listing, listing}
+use Rattle.listing.specs.Listing.{Listing, written, listing}
 use Rattle.listing.proofs.list_table.Reads as list_table
 use Rattle.listing.proofs.list_refusal.Reads as list_refusal
 use Rattle.listing.proofs.list_waiting.Reads as list_waiting
@@ -108,11 +108,11 @@ configuration_at-gives κs a x s h = h
 
 -- ---- listing: the answer and the lent buffer
 
-pub list_table-gives : (κs : Lfts 1) → Gives {L = Listing} (λ x s. record { answer = x; out = now (s .1 .1 .0) }) (list_table.Post κs) (λ a. listing (tableText (a .0) (a .1 .0)) (now (a .1 .1 .0)))
+pub list_table-gives : (κs : Lfts 1) → Gives {L = Listing} (λ x s. record { answer = written x; out = now (s .1 .1 .0) }) (list_table.Post κs) (λ a. listing (tableText (a .0) (a .1 .0)) (now (a .1 .1 .0)))
 list_table-gives κs a x s h = h
 
-pub list_refusal-gives : (κs : Lfts 1) → Gives {L = Listing} (λ x s. record { answer = x; out = now (s .1 .1 .0) }) (list_refusal.Post κs) (λ a. listing (refusalText (a .0) (a .1 .0)) (now (a .1 .1 .0)))
+pub list_refusal-gives : (κs : Lfts 1) → Gives {L = Listing} (λ x s. record { answer = written x; out = now (s .1 .1 .0) }) (list_refusal.Post κs) (λ a. listing (refusalText (a .0) (a .1 .0)) (now (a .1 .1 .0)))
 list_refusal-gives κs a x s h = h
 
-pub list_waiting-gives : (κs : Lfts 1) → Gives {L = Listing} (λ x s. record { answer = x; out = now (s .1 .0) }) (list_waiting.Post κs) (λ a. listing (waitingText (a .0)) (now (a .1 .0)))
+pub list_waiting-gives : (κs : Lfts 1) → Gives {L = Listing} (λ x s. record { answer = written x; out = now (s .1 .0) }) (list_waiting.Post κs) (λ a. listing (waitingText (a .0)) (now (a .1 .0)))
 list_waiting-gives κs a x s h = h
