@@ -1,0 +1,85 @@
+//! The built program `dcdlist`: what it writes is the other program's listing.
+//!
+//! DCDLIST names the program; without it, it is looked for where `rt check dcdlist` puts it.
+
+use requests::generator::{Area, Generator};
+use std::env;
+use std::io::Write;
+use std::path::PathBuf;
+use std::process::{Command, Stdio};
+
+fn dcdlist() -> PathBuf {
+    let here = PathBuf::from(env!("CARGO_MANIFEST_DIR"));
+    let program =
+        env::var("DCDLIST").map_or_else(|_| here.join("../../target/bin/dcdlist"), PathBuf::from);
+    assert!(
+        program.exists(),
+        "{} is not there: `make` builds it",
+        program.display()
+    );
+    program
+}
+
+/// What the program writes for a body.
+fn listed(body: &[u8]) -> String {
+    let mut child = Command::new(dcdlist())
+        .stdin(Stdio::piped())
+        .stdout(Stdio::piped())
+        .spawn()
+        .expect("dcdlist starts");
+    // A program that has read enough may close its input early.
+    let _ = child
+        .stdin
+        .take()
+        .expect("its input is piped")
+        .write_all(body);
+    let output = child.wait_with_output().expect("dcdlist ends");
+    String::from_utf8(output.stdout).expect("a listing is text")
+}
+
+/// The other program's listing.
+fn expected(body: &[u8]) -> String {
+    let lines = reference::listing::list_body(body);
+    lines.iter().map(|line| format!("{line}\n")).collect()
+}
+
+fn bytes(hex: &str) -> Vec<u8> {
+    let digits = hex.trim_start_matches('-').as_bytes();
+    let digit = |b: u8| char::from(b).to_digit(16).expect("a hex digit") as u8;
+    digits
+        .chunks(2)
+        .map(|pair| digit(pair[0]) << 4 | digit(pair[1]))
+        .collect()
+}
+
+#[test]
+fn same_as_other_program_on_a_thousand_bodies() {
+    let bodies = Generator::new(7, Area::List)
+        .filter_map(|request| request.strip_prefix("list ").map(bytes));
+    for body in bodies.take(1_000) {
+        assert_eq!(listed(&body), expected(&body), "{body:02x?}");
+    }
+}
+
+#[test]
+fn refuses_03_every_input_over_1500_bytes() {
+    for length in [1_501, 1_502, 4_096, 65_536, 1_000_000] {
+        assert_eq!(listed(&vec![1; length]), "refused 3 at 0\n");
+    }
+}
+
+#[test]
+fn refuses_02_input_under_three_bytes() {
+    assert_eq!(listed(&[]), "refused 2 at 0\n");
+    assert_eq!(listed(&[7, 1]), "refused 2 at 0\n");
+}
+
+#[test]
+fn accepts_the_longest_body() {
+    let mut body = vec![7, 1, 1];
+    body.extend([99, 0].repeat(748));
+    assert_eq!(body.len(), 1_499);
+    assert!(listed(&body).starts_with("dcd 7 rules 0 "));
+    body.extend([0]);
+    assert_eq!(listed(&body), "refused 6 at 1496\n");
+}

@@ -1,0 +1,261 @@
+//! The boundary: the only unsafe code. One safe function for each function of the library.
+//!
+//! Every function of the library takes any bytes and any numbers, has no state of its own, allocates
+//! nothing and keeps no pointer after it returns (`include/dsg.h`). What is left to show is that the
+//! pointers are good, that nothing lent as `&mut` is lent twice, and that the declarations below are
+//! the header's; the last is held by `tests/layout.rs` and by every answer that the tests compare.
+
+use crate::records::{Collection, Modem, Table, Tunnel};
+
+/// The answer to a body.
+#[repr(C)]
+#[derive(Clone, Copy, Debug, PartialEq, Eq)]
+pub struct Collected {
+    pub kind: u32,
+    pub number: u32,
+    pub empty: usize,
+    pub start: usize,
+    pub length: usize,
+}
+
+/// The answer to a message: number 0, or the refusal and its offset.
+#[repr(C)]
+#[derive(Clone, Copy, Debug, PartialEq, Eq)]
+pub struct ReadAnswer {
+    pub number: u32,
+    pub offset: usize,
+}
+
+/// The answer to a body that goes all the way.
+#[repr(C)]
+#[derive(Clone, Copy, Debug, PartialEq, Eq)]
+pub struct Received {
+    pub kind: u32,
+    pub number: u32,
+    pub empty: usize,
+    pub offset: usize,
+}
+
+/// The answer to a choice: number 0 and the rule's place, or the refusal.
+#[repr(C)]
+#[derive(Clone, Copy, Debug, PartialEq, Eq)]
+pub struct Choice {
+    pub number: u32,
+    pub place: usize,
+}
+
+/// The answer to a frame.
+#[repr(C)]
+#[derive(Clone, Copy, Debug, PartialEq, Eq)]
+pub struct Judged {
+    pub kind: u32,
+    pub number: u32,
+    pub start: usize,
+    pub length: usize,
+}
+
+/// The answer to a listing: number 0 and its length, or the refusal.
+#[repr(C)]
+#[derive(Clone, Copy, Debug, PartialEq, Eq)]
+pub struct Listed {
+    pub number: u32,
+    pub length: usize,
+}
+
+mod raw {
+    use super::{Choice, Collected, Judged, Listed, ReadAnswer, Received};
+    use crate::records::{Collection, Modem, Table, Tunnel};
+
+    extern "C" {
+        pub fn dsg_empty_collection() -> Collection;
+        pub fn dsg_empty_table() -> Table;
+        pub fn dsg_empty_modem() -> Modem;
+        pub fn dsg_collect(
+            held: *mut Collection,
+            slots: *mut u8,
+            slots_length: usize,
+            join: *mut u8,
+            join_length: usize,
+            body: *const u8,
+            body_length: usize,
+        ) -> Collected;
+        pub fn dsg_read(table: *mut Table, message: *const u8, length: usize) -> ReadAnswer;
+        pub fn dsg_receive(
+            held: *mut Collection,
+            table: *mut Table,
+            slots: *mut u8,
+            slots_length: usize,
+            join: *mut u8,
+            join_length: usize,
+            body: *const u8,
+            body_length: usize,
+        ) -> Received;
+        pub fn dsg_choose(table: *const Table, kind: u8, value: u64, known: u8, ucid: u8)
+            -> Choice;
+        pub fn dsg_judge(
+            table: *const Table,
+            kind: u8,
+            value: u64,
+            known: u8,
+            ucid: u8,
+            frame: *const u8,
+            length: usize,
+        ) -> Judged;
+        pub fn dsg_prepare(
+            table: *const Table,
+            kind: u8,
+            value: u64,
+            known: u8,
+            ucid: u8,
+        ) -> Tunnel;
+        pub fn dsg_judge_prepared(tunnel: *const Tunnel, frame: *const u8, length: usize)
+            -> Judged;
+        pub fn dsg_event(
+            modem: *mut Modem,
+            clock: u32,
+            event: u8,
+            a: u16,
+            b: u16,
+            c: u16,
+            d: u16,
+        ) -> u32;
+        pub fn dsg_transmits(modem: *const Modem) -> bool;
+        pub fn dsg_forwards(modem: *const Modem) -> bool;
+        pub fn dsg_list_body(
+            body: *const u8,
+            body_length: usize,
+            out: *mut u8,
+            out_length: usize,
+        ) -> Listed;
+        pub fn dsg_list_table(
+            table: *const Table,
+            count: u8,
+            out: *mut u8,
+            out_length: usize,
+        ) -> Listed;
+    }
+}
+
+/// A collection record with nothing collected.
+pub fn empty_collection() -> Collection {
+    // SAFETY: it takes nothing and returns a struct of numbers.
+    unsafe { raw::dsg_empty_collection() }
+}
+
+/// The table of the empty message.
+pub fn empty_table() -> Table {
+    // SAFETY: it takes nothing and returns a struct of numbers.
+    unsafe { raw::dsg_empty_table() }
+}
+
+/// An idle modem record.
+pub fn empty_modem() -> Modem {
+    // SAFETY: it takes nothing and returns a struct of numbers.
+    unsafe { raw::dsg_empty_modem() }
+}
+
+/// One body for a lent record and two lent buffers.
+pub fn collect(held: &mut Collection, slots: &mut [u8], join: &mut [u8], body: &[u8]) -> Collected {
+    // SAFETY: each pointer comes from a reference that lives through the call, each length is its
+    // slice's, and the borrow checker keeps the four apart.
+    unsafe {
+        raw::dsg_collect(
+            held,
+            slots.as_mut_ptr(),
+            slots.len(),
+            join.as_mut_ptr(),
+            join.len(),
+            body.as_ptr(),
+            body.len(),
+        )
+    }
+}
+
+/// A message for a lent table.
+pub fn read(table: &mut Table, message: &[u8]) -> ReadAnswer {
+    // SAFETY: both pointers come from references that live through the call and are kept apart; the
+    // length is the slice's.
+    unsafe { raw::dsg_read(table, message.as_ptr(), message.len()) }
+}
+
+/// One body all the way: for a lent record, a lent table and two lent buffers.
+pub fn receive(
+    held: &mut Collection,
+    table: &mut Table,
+    slots: &mut [u8],
+    join: &mut [u8],
+    body: &[u8],
+) -> Received {
+    // SAFETY: as for `collect`, with the table as a fifth reference.
+    unsafe {
+        raw::dsg_receive(
+            held,
+            table,
+            slots.as_mut_ptr(),
+            slots.len(),
+            join.as_mut_ptr(),
+            join.len(),
+            body.as_ptr(),
+            body.len(),
+        )
+    }
+}
+
+/// The rule for a client.
+pub fn choose(table: &Table, kind: u8, value: u64, known: u8, ucid: u8) -> Choice {
+    // SAFETY: the pointer comes from a reference that lives through the call; it is only read.
+    unsafe { raw::dsg_choose(table, kind, value, known, ucid) }
+}
+
+/// The verdict on a frame.
+pub fn judge(table: &Table, kind: u8, value: u64, known: u8, ucid: u8, frame: &[u8]) -> Judged {
+    // SAFETY: both pointers come from references that live through the call and are only read; the
+    // length is the slice's.
+    unsafe { raw::dsg_judge(table, kind, value, known, ucid, frame.as_ptr(), frame.len()) }
+}
+
+/// The tunnel of a client, prepared.
+pub fn prepare(table: &Table, kind: u8, value: u64, known: u8, ucid: u8) -> Tunnel {
+    // SAFETY: the pointer comes from a reference that lives through the call; it is only read.
+    unsafe { raw::dsg_prepare(table, kind, value, known, ucid) }
+}
+
+/// The verdict on a frame with a prepared tunnel.
+pub fn judge_prepared(tunnel: &Tunnel, frame: &[u8]) -> Judged {
+    // SAFETY: both pointers come from references that live through the call and are only read; the
+    // length is the slice's.
+    unsafe { raw::dsg_judge_prepared(tunnel, frame.as_ptr(), frame.len()) }
+}
+
+/// One event for a lent modem record: 0, or the refusal's number.
+pub fn event(modem: &mut Modem, clock: u32, event: u8, values: [u16; 4]) -> u32 {
+    let [a, b, c, d] = values;
+    // SAFETY: the pointer comes from a reference that lives through the call and is the only one.
+    unsafe { raw::dsg_event(modem, clock, event, a, b, c, d) }
+}
+
+/// Whether the transmitter is on.
+pub fn transmits(modem: &Modem) -> bool {
+    // SAFETY: the pointer comes from a reference that lives through the call; it is only read.
+    unsafe { raw::dsg_transmits(modem) }
+}
+
+/// Whether tunnels are forwarded.
+pub fn forwards(modem: &Modem) -> bool {
+    // SAFETY: the pointer comes from a reference that lives through the call; it is only read.
+    unsafe { raw::dsg_forwards(modem) }
+}
+
+/// What `dcdlist` writes for a body.
+pub fn list_body(body: &[u8], out: &mut [u8]) -> Listed {
+    // SAFETY: both pointers come from references that live through the call and are kept apart; each
+    // length is its slice's.
+    unsafe { raw::dsg_list_body(body.as_ptr(), body.len(), out.as_mut_ptr(), out.len()) }
+}
+
+/// The listing of a table.
+pub fn list_table(table: &Table, count: u8, out: &mut [u8]) -> Listed {
+    // SAFETY: both pointers come from references that live through the call and are kept apart; the
+    // length is the slice's.
+    unsafe { raw::dsg_list_table(table, count, out.as_mut_ptr(), out.len()) }
+}

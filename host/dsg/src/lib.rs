@@ -1,0 +1,199 @@
+//! The proved DSG receiver, for Rust hosts.
+//!
+//! A head end describes its tunnels in a DCD message, which comes in pieces. [`Receiver`] takes the
+//! pieces as they come and holds the table that the whole message gives; [`Tunnel`] judges the frames
+//! for one client; [`Modem`] says when the transmitter may be on. All the work is done by `libdsg.a`,
+//! of which every function is proved; this crate only gives it Rust's types. Unsafe code stands in one
+//! module, `ffi`.
+//!
+//! ```
+//! use dsg::{ClientId, Receiver, Received, Tunnel, Verdict};
+//!
+//! // One body: change count 7, one piece of one, a rule for application 42 with tunnel 01005e050505.
+//! let body = [
+//!     7, 1, 1, 50, 20, 1, 1, 5, 2, 1, 80, 4, 4, 4, 2, 0, 42, 5, 6, 1, 0, 0x5E, 5, 5, 5,
+//! ];
+//! let mut receiver = Receiver::new();
+//! assert_eq!(receiver.receive(&body), Ok(Received::Accepted));
+//!
+//! let tunnel = Tunnel::prepare(receiver.table(), ClientId::Application(42), None);
+//! let frame = [&[1, 0, 0x5E, 5, 5, 5][..], &[0; 8], b"guide"].concat();
+//! assert_eq!(tunnel.judge(&frame), Ok(Verdict::Forward { classifier: 0, payload: b"guide" }));
+//! ```
+#![deny(unsafe_code, missing_docs)]
+
+#[allow(unsafe_code)]
+mod ffi;
+pub mod lent;
+pub mod records;
+
+pub use lent::{ClientId, Event, Part, Piece, Received, Refusal, Verdict};
+pub use records::{Collection, Modem, Table, Tunnel};
+
+/// How many bytes each of the two buffers of a collection has at least.
+pub const BUFFER_BYTES: usize = 24_000;
+
+/// A collection with its buffers, and the table that was read last.
+pub struct Receiver {
+    held: Collection,
+    table: Table,
+    slots: Box<[u8]>,
+    join: Box<[u8]>,
+}
+
+impl Receiver {
+    /// Nothing collected, and the table of the empty message.
+    #[must_use]
+    pub fn new() -> Self {
+        Receiver {
+            held: Collection::default(),
+            table: Table::default(),
+            slots: vec![0; BUFFER_BYTES].into(),
+            join: vec![0; BUFFER_BYTES].into(),
+        }
+    }
+
+    /// Takes one body. Once its message is complete it is read, and the table is the new one if it is accepted.
+    ///
+    /// # Errors
+    /// The refusal of the body, or of the message that it completed; the table stays.
+    pub fn receive(&mut self, body: &[u8]) -> Result<Received, Refusal> {
+        lent::receive(
+            &mut self.held,
+            &mut self.table,
+            &mut self.slots,
+            &mut self.join,
+            body,
+        )
+    }
+
+    /// The table of the last message that was accepted.
+    #[must_use]
+    pub fn table(&self) -> &Table {
+        &self.table
+    }
+}
+
+impl Default for Receiver {
+    fn default() -> Self {
+        Receiver::new()
+    }
+}
+
+impl Default for Collection {
+    /// Nothing collected.
+    fn default() -> Self {
+        lent::empty_collection()
+    }
+}
+
+impl Default for Table {
+    /// The table of the empty message: no rule, no classifier, no channel, timers 2, 600, 300 and 1800.
+    fn default() -> Self {
+        lent::empty_table()
+    }
+}
+
+impl Table {
+    /// Reads a message into this table.
+    ///
+    /// # Errors
+    /// The refusal and the byte where it was met; the table stays as it was.
+    pub fn read(&mut self, message: &[u8]) -> Result<(), Refusal> {
+        lent::read_table(self, message)
+    }
+
+    /// The place of the rule for a client, where its UCID is known with that too.
+    ///
+    /// # Errors
+    /// 17: no rule fits.
+    pub fn choose(&self, client: ClientId, ucid: Option<u8>) -> Result<usize, Refusal> {
+        lent::choose_rule(self, client, ucid)
+    }
+
+    /// Judges a frame for a client. For many frames of one client [`Tunnel`] is quicker.
+    ///
+    /// # Errors
+    /// 16: the frame is too short or too long. 17: no rule fits the client.
+    pub fn judge<'f>(
+        &self,
+        client: ClientId,
+        ucid: Option<u8>,
+        frame: &'f [u8],
+    ) -> Result<Verdict<'f>, Refusal> {
+        lent::judge_frame(self, client, ucid, frame)
+    }
+}
+
+impl Tunnel {
+    /// Chooses the rule for a client and looks its classifiers up.
+    #[must_use]
+    pub fn prepare(table: &Table, client: ClientId, ucid: Option<u8>) -> Self {
+        lent::prepare_tunnel(table, client, ucid)
+    }
+
+    /// Judges a frame.
+    ///
+    /// # Errors
+    /// 16: the frame is too short or too long. 17: no rule fitted the client.
+    pub fn judge<'f>(&self, frame: &'f [u8]) -> Result<Verdict<'f>, Refusal> {
+        lent::judge_prepared(self, frame)
+    }
+}
+
+impl Modem {
+    /// An idle record.
+    #[must_use]
+    pub fn idle() -> Self {
+        lent::empty_modem()
+    }
+
+    /// Advances the record by an event at a time of the millisecond clock.
+    ///
+    /// ```
+    /// use dsg::{Event, Modem};
+    ///
+    /// let mut modem = Modem::idle();
+    /// modem.on_event(0, Event::Start { permitted: true })?;
+    /// modem.on_event(10, Event::Locked)?;
+    /// modem.on_event(500, Event::TableAccepted([2, 600, 300, 1800]))?;
+    /// assert!(modem.transmits() && modem.forwards());
+    /// modem.on_event(600, Event::Disable)?;
+    /// assert!(!modem.transmits() && modem.forwards());
+    /// # Ok::<(), dsg::Refusal>(())
+    /// ```
+    ///
+    /// # Errors
+    /// 18: the clock went back; the record stays as it was.
+    pub fn on_event(&mut self, clock: u32, event: Event) -> Result<(), Refusal> {
+        lent::on_event(self, clock, event)
+    }
+
+    /// Whether the transmitter is on.
+    #[must_use]
+    pub fn transmits(&self) -> bool {
+        lent::transmits(self)
+    }
+
+    /// Whether tunnels are forwarded.
+    #[must_use]
+    pub fn forwards(&self) -> bool {
+        lent::forwards(self)
+    }
+}
+
+/// What `dcdlist` writes for one body.
+///
+/// ```
+/// assert_eq!(dsg::list_body(&[7, 1, 1, 50, 0]), "refused 13 at 0\n");
+/// ```
+#[must_use]
+pub fn list_body(body: &[u8]) -> String {
+    lent::as_text(|out| lent::list_body(body, out))
+}
+
+/// The listing of a table and the change count that it came under.
+#[must_use]
+pub fn list_table(count: u8, table: &Table) -> String {
+    lent::as_text(|out| lent::list_table(count, table, out))
+}

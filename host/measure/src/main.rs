@@ -1,0 +1,333 @@
+//! `make measure`: one run, a line for each piece of work, the library beside plain Rust and, where it
+//! applies, beside a plain copy of the same bytes. Times are medians of interleaved rounds.
+
+use dsg::lent;
+use dsg::records::Client;
+use dsg::{Collection, Event, Modem, Table, Tunnel, BUFFER_BYTES};
+use measure::inputs::{frame, long_rows, sixteen_bodies, table_message, unlisted, LONGEST};
+use measure::plain;
+use measure::rounds::{report, runner};
+use std::hint::black_box;
+
+/// The client that only rule `n` of the measured tables lists.
+fn client(n: u8) -> Client {
+    Client {
+        kind: 4,
+        value: u64::from(n) << 8 | 3,
+    }
+}
+
+fn full_table() -> Table {
+    let mut table = Table::default();
+    table
+        .read(&table_message(32))
+        .expect("the full table is accepted");
+    table
+}
+
+fn reading(what: &str, message: &[u8]) {
+    let (mut ours, mut theirs) = (Table::default(), Table::default());
+    report(
+        what,
+        1,
+        vec![
+            runner("library", || {
+                black_box(lent::read_table(&mut ours, black_box(message)).is_ok());
+            }),
+            runner("plain", || {
+                black_box(plain::read::read_table(&mut theirs, black_box(message)).is_ok());
+            }),
+        ],
+    );
+}
+
+/// Sixteen pieces from nothing to the whole message, and the same bytes copied twice.
+fn collecting() {
+    let message = long_rows();
+    let bodies = sixteen_bodies(&message);
+    let buffers = || (vec![0u8; BUFFER_BYTES], vec![0u8; BUFFER_BYTES]);
+    let ((mut s1, mut j1), (mut s2, mut j2), (mut s3, mut j3)) = (buffers(), buffers(), buffers());
+    report(
+        "collecting sixteen pieces of 1,497 bytes",
+        1,
+        vec![
+            runner("library", || {
+                let mut held = Collection::default();
+                for body in &bodies {
+                    black_box(lent::collect(&mut held, &mut s1, &mut j1, black_box(body)).is_ok());
+                }
+            }),
+            runner("plain", || {
+                let mut held = Collection::default();
+                for body in &bodies {
+                    black_box(plain::collect::collect(
+                        &mut held,
+                        &mut s2,
+                        &mut j2,
+                        black_box(body),
+                    ));
+                }
+            }),
+            runner("memcpy", || {
+                for (k, body) in bodies.iter().enumerate() {
+                    let piece = black_box(&body[3..]);
+                    s3[k * 1500..k * 1500 + piece.len()].copy_from_slice(piece);
+                }
+                let mut at = 0;
+                for (k, body) in bodies.iter().enumerate() {
+                    let n = body.len() - 3;
+                    j3[at..at + n].copy_from_slice(&black_box(&s3)[k * 1500..k * 1500 + n]);
+                    at += n;
+                }
+                black_box(&mut j3);
+            }),
+        ],
+    );
+}
+
+/// A repeated piece, and the same bytes compared.
+fn repeating() {
+    let bodies = sixteen_bodies(&long_rows());
+    let collected = || {
+        let (mut slots, mut join) = (vec![0u8; BUFFER_BYTES], vec![0u8; BUFFER_BYTES]);
+        let mut held = Collection::default();
+        for body in &bodies {
+            let _ = lent::collect(&mut held, &mut slots, &mut join, body);
+        }
+        (held, slots, join)
+    };
+    let ((mut h1, mut s1, mut j1), (mut h2, mut s2, mut j2)) = (collected(), collected());
+    let slot = s1[..1497].to_vec();
+    report(
+        "a repeated piece of 1,497 bytes",
+        1,
+        vec![
+            runner("library", || {
+                black_box(lent::collect(&mut h1, &mut s1, &mut j1, black_box(&bodies[0])).is_ok());
+            }),
+            runner("plain", || {
+                black_box(plain::collect::collect(
+                    &mut h2,
+                    &mut s2,
+                    &mut j2,
+                    black_box(&bodies[0]),
+                ));
+            }),
+            runner("memcmp", || {
+                black_box(black_box(&bodies[0])[3..] == *black_box(&slot));
+            }),
+        ],
+    );
+}
+
+fn choosing(rules: u8) {
+    let mut table = Table::default();
+    table
+        .read(&table_message(rules))
+        .expect("the table is accepted");
+    report(
+        &format!("choosing, {rules} rules of 8 clients"),
+        1,
+        vec![
+            runner("library", || {
+                black_box(lent::choose_rule(black_box(&table), client(rules - 1), Some(4)).is_ok());
+            }),
+            runner("plain", || {
+                black_box(plain::judge::choose_rule(
+                    black_box(&table),
+                    client(rules - 1),
+                    Some(4),
+                ));
+            }),
+        ],
+    );
+}
+
+/// Frames for the tunnel of rule 9: one that its best classifier takes, one for another address, one that none takes.
+fn frames() -> [(&'static str, Vec<u8>); 3] {
+    let best = 17;
+    [
+        ("forward", frame(9, best, 0x1234)),
+        ("other", frame(8, best, 0x1234)),
+        ("filtered", frame(9, 99, 0x1234)),
+    ]
+}
+
+fn judging() {
+    let table = full_table();
+    for (name, frame) in frames() {
+        report(
+            &format!("judging with the table, {name}"),
+            1,
+            vec![
+                runner("library", || {
+                    let verdict =
+                        lent::judge_frame(black_box(&table), client(9), Some(4), black_box(&frame));
+                    black_box(verdict.is_ok());
+                }),
+                runner("plain", || {
+                    let verdict = plain::judge::judge_frame(
+                        black_box(&table),
+                        client(9),
+                        Some(4),
+                        black_box(&frame),
+                    );
+                    black_box(verdict);
+                }),
+            ],
+        );
+    }
+}
+
+fn judging_prepared() {
+    let table = full_table();
+    let ours = Tunnel::prepare(&table, dsg::ClientId::Application(0x0903), Some(4));
+    let theirs = plain::judge::prepare_tunnel(&table, client(9), Some(4));
+    for (name, frame) in frames() {
+        report(
+            &format!("judging with a prepared tunnel, {name}"),
+            1,
+            vec![
+                runner("library", || {
+                    black_box(lent::judge_prepared(black_box(&ours), black_box(&frame)).is_ok());
+                }),
+                runner("plain", || {
+                    black_box(plain::judge::judge_prepared(
+                        black_box(&theirs),
+                        black_box(&frame),
+                    ));
+                }),
+            ],
+        );
+    }
+    report(
+        "preparing a tunnel in a full table",
+        1,
+        vec![
+            runner("library", || {
+                black_box(lent::prepare_tunnel(black_box(&table), client(9), Some(4)));
+            }),
+            runner("plain", || {
+                black_box(plain::judge::prepare_tunnel(
+                    black_box(&table),
+                    client(9),
+                    Some(4),
+                ));
+            }),
+        ],
+    );
+}
+
+/// A day of a modem: from Start through every state and back.
+fn modem_events() {
+    use plain::modem::Event as Plain;
+    let ours = [
+        Event::Locked,
+        Event::TableAccepted([2, 600, 300, 1800]),
+        Event::Packet,
+        Event::UpstreamUp(4),
+        Event::Packet,
+        Event::Tick,
+        Event::UpstreamLost,
+        Event::Tick,
+        Event::Enable,
+        Event::Hunt,
+    ];
+    let theirs = [
+        Plain::Locked,
+        Plain::TableAccepted([2, 600, 300, 1800]),
+        Plain::Packet,
+        Plain::UpstreamUp(4),
+        Plain::Packet,
+        Plain::Tick,
+        Plain::UpstreamLost,
+        Plain::Tick,
+        Plain::Enable,
+        Plain::Hunt,
+    ];
+    let (mut m1, mut m2) = (Modem::idle(), Modem::idle());
+    let _ = m1.on_event(0, Event::Start { permitted: true });
+    plain::modem::on_event(&mut m2, 0, Plain::Start(true));
+    let (mut c1, mut c2) = (0u32, 0u32);
+    report(
+        "a modem event",
+        ours.len(),
+        vec![
+            runner("library", || {
+                for event in ours {
+                    c1 = c1.wrapping_add(7);
+                    black_box(lent::on_event(&mut m1, c1, black_box(event)).is_ok());
+                }
+            }),
+            runner("plain", || {
+                for event in theirs {
+                    c2 = c2.wrapping_add(7);
+                    black_box(plain::modem::on_event(&mut m2, c2, black_box(event)));
+                }
+            }),
+        ],
+    );
+}
+
+fn listing() {
+    let table = full_table();
+    let (mut o1, mut o2) = (vec![0u8; 4096], vec![0u8; 4096]);
+    report(
+        "listing a full table",
+        1,
+        vec![
+            runner("library", || {
+                black_box(lent::list_table(7, black_box(&table), &mut o1).is_ok());
+            }),
+            runner("plain", || {
+                black_box(plain::list::list_table(7, black_box(&table), &mut o2));
+            }),
+        ],
+    );
+}
+
+fn reading_all() {
+    reading("reading the empty message", &[]);
+    for rules in [1, 4, 8, 16, 32] {
+        let message = table_message(rules);
+        let what = format!("reading {rules} rules, {} bytes", message.len());
+        reading(&what, &message);
+    }
+    reading(&format!("reading real rows, {LONGEST} bytes"), &long_rows());
+    for bytes in [1_500, 6_000, 12_000, LONGEST] {
+        let what = format!("reading unlisted elements, {bytes} bytes");
+        reading(&what, &unlisted(bytes));
+    }
+}
+
+fn collecting_all() {
+    collecting();
+    repeating();
+}
+
+fn judging_all() {
+    for rules in [1, 8, 32] {
+        choosing(rules);
+    }
+    judging();
+    judging_prepared();
+}
+
+/// What can be measured, by the word that names it.
+const PARTS: [(&str, fn()); 5] = [
+    ("read", reading_all),
+    ("collect", collecting_all),
+    ("judge", judging_all),
+    ("modem", modem_events),
+    ("list", listing),
+];
+
+/// Measures every part, or the one that the first argument names.
+fn main() {
+    let only = std::env::args().nth(1);
+    for (name, measure) in PARTS {
+        if only.as_deref().is_none_or(|only| only == name) {
+            measure();
+        }
+    }
+}
