@@ -18,7 +18,7 @@ MEMCHECK_COUNT := 1500
 .PHONY: sample dcdlist test after-prove layout prove library host host-test samples host-c bench memcheck measure clean help
 
 sample: dcdlist ## build dcdlist and list document 01's example body (the default)
-	@examples/bytes < examples/accepted-m.hex | target/bin/dcdlist
+	@examples/bytes < examples/bodies/accepted-m.hex | target/bin/dcdlist
 
 dcdlist: ## prove and build the program target/bin/dcdlist
 	@mkdir -p $(LOGS)
@@ -52,7 +52,7 @@ host-test: host ## the tests of the Rust side
 
 samples: ## dcdlist on every sample of examples/
 	@test -x target/bin/dcdlist || $(MAKE) --no-print-directory dcdlist
-	@examples/check target/bin/dcdlist
+	@examples/check-bodies target/bin/dcdlist
 
 host-c: $(LIBRARY) ## the C host of examples/, built by gcc and clang and run on its script
 	@examples/check-host $(LIBRARY) build/host-c
