@@ -22,6 +22,10 @@ use Rattle.collector.proofs.message.Reads as message
 use Rattle.collector.proofs.collect_lent as collect_lent
 use Rattle.collector.proofs.collect_lent.Statement as collect_lent′
 use Rattle.collector.proofs.collect_lent.Met as collect_lent″
+use Rattle.reader.specs.Read.{readTable}
+use Rattle.reader.proofs.read_table.Reads as read_table
+use Rattle.reader.proofs.read_table.Statement as read_table′
+use Rattle.reader.proofs.read_table.Met as read_table″
 use Rattle.choice.specs.Best.{isBetter}
 use Rattle.choice.specs.Choose.{choiceOf}
 use Rattle.choice.proofs.is_better.Reads as is_better
@@ -86,6 +90,14 @@ collect_lent-says M 𝓤 H A mem run κs a g x s = refl
 pub collect_lent-gives : (κs : Lfts 3) → Gives {L = LentAfter} (λ x s. record { answer = said (x .outcome .answer); held = x .outcome .held; slots = now (s .1 .0); own = now (x .own); joined = now (x .joined); rest = now (x .rest) })
     (CollectLent κs) (λ a. lentStep (a .0) (now (a .1 .0)) (now (a .1 .1 .0)) (now (a .1 .1 .1 .0)))
 collect_lent-gives κs a x s h = h
+
+-- ---- reading a table: the verdict and the table
+
+pub read_table-met : {M : Type 1} → read_table′.statement M
+read_table-met = read_table″.met
+
+pub read_table-gives : (κs : Lfts 1) → Gives answer (read_table.Post κs) (λ a. readTable (a .0) (now (a .1 .0)))
+read_table-gives κs a x s h = h
 
 -- ---- choosing the tunnel for a client
 

@@ -33,6 +33,7 @@ use Rattle.rows.proofs.test_element.Reads as test_element
 use Rattle.contents.proofs.rule_at.Reads as rule_at
 use Rattle.contents.proofs.classifier_at.Reads as classifier_at
 use Rattle.contents.proofs.configuration_at.Reads as configuration_at
+use Rattle.reader.proofs.read_table.Reads as read_table
 use Rattle.collector.proofs.empty_collection.Reads as empty_collection
 use Rattle.collector.proofs.collect.Reads as collect
 use Rattle.collector.proofs.message.Reads as message
@@ -115,6 +116,11 @@ classifier_at-one κs = only (parts.classifier_at-gives κs)
 
 pub configuration_at-one : (κs : Lfts 1) → One answer (configuration_at.Post κs)
 configuration_at-one κs = only (parts.configuration_at-gives κs)
+
+-- ---- reader
+
+pub read_table-one : (κs : Lfts 1) → One answer (read_table.Post κs)
+read_table-one κs = only (demand2.read_table-gives κs)
 
 -- ---- collector
 
