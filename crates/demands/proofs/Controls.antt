@@ -7,7 +7,8 @@
 --   no-invented-slots          collecting: one that answers Waiting with a number of its own
 --
 -- Each is over any function that meets the promise, not over ours. What our collector answers over whole histories, and that its number
--- of empty slots is that of the run, is in crate collector_demands, proofs/Controls.antt, which the last two cite.
+-- of empty slots is that of the run, is in crate collector_demands, proofs/Controls.antt, which the last two cite; the crates reader and
+-- modem have controls of their own, cited here.
 -- Trusts: nothing.
 use Prim.Native.Nat.{ℕ, _-_, _≤_}
 use mathlib.Core.Path.{_≡_, refl, sym, ap, _∙_}
@@ -18,11 +19,10 @@ use lib.ListN.{length, replicate, length-replicate}
 use Rattle.table.specs.declared.Client.{Client}
 use Rattle.table.specs.declared.Rule.{Rule}
 use Rattle.table.specs.declared.Table.{Table}
-use Rattle.table.specs.Table.{rulesOf, clientsOf, emptyClient, emptyRule, emptyClassifier, defaultTimers, emptyTable}
-use Rattle.reader.specs.Read.{readTable}
+use Rattle.table.specs.Table.{rulesOf, clientsOf, emptyClient, emptyRule, emptyClassifier, defaultTimers}
+use Rattle.reader.specs.Read.{numberOf, readTable}
 use Rattle.reader.specs.declared.Reading.{Reading}
-use Rattle.reader.specs.declared.Verdict.the-variants.{Accepted}
-use Rattle.demands.proofs.Messages.{read-empty}
+use Rattle.reader.proofs.Controls as reader
 use Rattle.choice.specs.declared.Ucid.{Ucid}
 use Rattle.choice.specs.declared.Ucid.the-variants.{Unknown, Known}
 use Rattle.choice.specs.declared.Choice.{Choice}
@@ -31,12 +31,9 @@ use Rattle.choice.specs.Best.{comesBefore, anyOf, firstPlace, isBest, bestPlace
 use Rattle.choice.specs.Choose.{isClient, listsClient, admitsUcid, fitsClient, chosenPlace, choiceOf}
 use Rattle.modem.specs.declared.Modem.{Modem}
 use Rattle.modem.specs.declared.Event.{Event}
-use Rattle.modem.specs.declared.Event.the-variants.{Start}
 use Rattle.modem.specs.declared.Stepped.{Stepped}
-use Rattle.modem.specs.Record.{emptyModem}
 use Rattle.modem.specs.Step.{steppedModem}
-use Rattle.modem.proofs.Laws.{steppedModem-start}
-use Rattle.modem.specs.Events.{startRow}
+use Rattle.modem.proofs.Controls as modem
 use Rattle.collector.specs.Answers.{Said, waiting}
 use Rattle.collector.specs.Step.{bodyRefusal, wellMade, emptyCollection, After, collectStep}
 use Rattle.collector.specs.declared.Collection.{Collection}
@@ -48,8 +45,8 @@ use Rattle.collector_demands.proofs.Controls as collector
 -- ---- reading
 
 pub no-refuse-all : (f : Table → List ℕ → Reading) → ((given : Table) (msg : List ℕ) → f given msg ≡ readTable given msg)
-    → ((given : Table) (msg : List ℕ) → f given msg .verdict ≡ Accepted → ⊥) → ⊥
-no-refuse-all f meets refuses = refuses emptyTable [] (ap (λ (r : Reading). r .verdict) (meets emptyTable [] ∙ read-empty emptyTable))
+    → ((given : Table) (msg : List ℕ) → numberOf (f given msg .verdict) ≡ 0 → ⊥) → ⊥
+no-refuse-all = reader.no-refuse-all
 
 -- ---- choosing
 
@@ -80,10 +77,7 @@ no-one-tunnel f meets same =
 
 pub no-still-modem : (f : Modem → ℕ → Event → Stepped) → ((m : Modem) (now : ℕ) (ev : Event) → f m now ev ≡ steppedModem m now ev)
     → ((m : Modem) (now : ℕ) (ev : Event) → f m now ev .modem ≡ m) → ⊥
-unfolding startRow
-no-still-modem f meets still =
-    let e : _≡_ {A = ℕ} 1 0 = ap (λ (s : Stepped). s .modem .state) (sym (meets emptyModem 0 (Start true) ∙ steppedModem-start emptyModem 0 true)) ∙ ap (λ (m : Modem). m .state) (still emptyModem 0 (Start true)) in
-    omega arith
+no-still-modem = modem.no-still-modem
 
 -- ---- collecting
 

@@ -55,10 +55,8 @@ use Rattle.reader.specs.declared.Verdict.the-variants as reading
 use Rattle.modem.specs.declared.Modem.{Modem}
 use Rattle.modem.specs.declared.Event.{Event}
 use Rattle.modem.specs.declared.Answer.the-variants as modem
-use Rattle.modem.specs.declared.Stepped.{Stepped}
-use Rattle.modem.specs.Record.{countsIdle}
-use Rattle.modem.specs.Events.{eventOn}
-use Rattle.modem.specs.Step.{isStart, isBack, aged, steppedModem}
+use Rattle.modem.specs.Step.{steppedModem, nextModem}
+use Rattle.modem.proofs.LawsSending as sending
 use Rattle.listing.specs.Listing as listed
 use Rattle.listing.specs.Listing.{Listing, listing}
 
@@ -144,16 +142,8 @@ headAt-refused msg at end n e = let h : Says msg at end (head.Refused n) = rw e 
 
 -- ---- stepping the modem
 
-abbrev steppedIf : Bool → Bool → Modem → ℕ → Event → Stepped
-steppedIf t u m now ev = cond t (record { answer = modem.Done; modem = m }) (cond u (record { answer = modem.ClockBack; modem = m }) (record { answer = modem.Done; modem = eventOn ev (aged m now) }))
-
-pub steppedModem-refused : (m : Modem) (now : ℕ) (ev : Event) → steppedModem m now ev .answer ≡ modem.ClockBack → steppedModem m now ev ≡ record { answer = modem.ClockBack; modem = m }
-unfolding steppedModem
-steppedModem-refused m now ev = go (not (isStart ev) && countsIdle m) (not (isStart ev) && isBack now (m .last)) where
-  go : (t u : Bool) → steppedIf t u m now ev .answer ≡ modem.ClockBack → steppedIf t u m now ev ≡ record { answer = modem.ClockBack; modem = m }
-  go true u e = absurd (let z : _≡_ {A = ℕ} 0 1 = cc in omega arith)
-  go false true e = refl
-  go false false e = absurd (let z : _≡_ {A = ℕ} 0 1 = cc in omega arith)
+pub steppedModem-refused : (m : Modem) (now : ℕ) (ev : Event) → steppedModem m now ev .answer ≡ modem.ClockBack → nextModem m now ev ≡ m
+steppedModem-refused = sending.steppedModem-refused
 
 -- ---- listing
 
