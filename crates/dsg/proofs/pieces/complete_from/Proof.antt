@@ -1,8 +1,8 @@
--- `dsg::bodies::complete_from` gives `completeOf`: each branch rewrites by its test.
+-- `dsg::pieces::complete_from` gives `completeOf`: each branch rewrites by its test.
 -- Trusts: nothing.
 use borrow.Author.Tests.{ne-eqb}
-use Rattle.dsg.proofs.bodies.complete_from.Statement.{statement}
-use Rattle.dsg.proofs.bodies.complete_from.Tie as tie
+use Rattle.dsg.proofs.pieces.complete_from.Statement.{statement}
+use Rattle.dsg.proofs.pieces.complete_from.Tie as tie
 
 returns : tie.Need-returns
 returns c = rw (c .if1 .taken)

@@ -1,13 +1,16 @@
-// What a host does with a body: collect it.
+// What a host does with a body: collect it, or take it all the way to a table.
 //
-// `dsg_empty_collection` and `dsg_collect`. The message that a body completes is told by its place, in the
-// body or in the join buffer: it is not copied again.
+// `dsg_empty_collection`, `dsg_collect` and `dsg_receive`. The message that a body completes is told by its
+// place, in the body or in the join buffer: it is not copied again.
 ghost use mathlib.Core.Path.{_≡_};
 ghost use Rattle.collector.specs.Answers.{said};
 ghost use Rattle.collector.specs.Step.{emptyCollection};
-ghost use Rattle.dsg.specs.Bodies.{completeOf, collectedOf, collectAfter};
+ghost use Rattle.receiver.specs.Receive.{told};
+ghost use Rattle.dsg.specs.Bodies.{completeOf, collectedOf, collectAfter, receivedOf, receiveAfter};
 use collector::Answer;
 use collector::Collection;
+use receiver::Report;
+use table::Table;
 
 // What a body is answered. Kind 0: refused, `number` says why. 1: a repeat. 2: waiting for `empty` slots.
 // 3, 4: complete; the message is `length` bytes from `start` of the body (3) or of the join buffer (4).
@@ -18,6 +21,23 @@ pub struct Collected {
     pub empty: usize,
     pub start: usize,
     pub length: usize,
+}
+
+// What a body that goes all the way is answered. Kind 0: refused, `number` says why. 1: a repeat. 2: waiting
+// for `empty` slots. 3: the table is the message's. 4: the message is refused, by `number` at byte `offset`.
+#[repr(C)]
+pub struct Received {
+    pub kind: u32,
+    pub number: u32,
+    pub empty: usize,
+    pub offset: usize,
+}
+
+// An answer, and the record and the table after it.
+struct ReceiveStepped {
+    answer: Received,
+    held: Collection,
+    table: Table,
 }
 
 // An answer, and the record after it.
@@ -105,6 +125,83 @@ pub extern "C" fn dsg_collect(
 {
     let s = collect_value(*held, slots, join, body);
     *held = s.held;
+    s.answer
+}
+
+// The numbers of a report.
+fn received_from(report: Report) -> Received
+    ensures { λ r. ⌜ r ≡ receivedOf (told report) ⌝ }
+{
+    match report {
+        Report::BodyRefused(n) => Received {
+            kind: 0,
+            number: n as u32,
+            empty: 0,
+            offset: 0,
+        },
+        Report::Repeat => Received {
+            kind: 1,
+            number: 0,
+            empty: 0,
+            offset: 0,
+        },
+        Report::Waiting(k) => Received {
+            kind: 2,
+            number: 0,
+            empty: k as usize,
+            offset: 0,
+        },
+        Report::Accepted => Received {
+            kind: 3,
+            number: 0,
+            empty: 0,
+            offset: 0,
+        },
+        Report::MessageRefused(n, offset) => Received {
+            kind: 4,
+            number: n as u32,
+            empty: 0,
+            offset,
+        },
+    }
+}
+
+// One body all the way, for a record and a table by value.
+fn receive_value(
+    held: Collection,
+    table: Table,
+    slots: &mut [u8],
+    join: &mut [u8],
+    body: &[u8],
+) -> ReceiveStepped
+    ensures { λ r. ⌜ record { answer = r .answer; held = r .held; table = r .table; slots = now (slots .exit); join = now (join .exit) } ≡ receiveAfter held table (now (slots .entry)) (now (join .entry)) (now (body .entry)) ⌝ }
+{
+    let left = receiver::receive(held, table, slots, join, body);
+    let report = left.report;
+    let next = left.held;
+    let after = left.table;
+    let received = received_from(report);
+    ReceiveStepped {
+        answer: received,
+        held: next,
+        table: after,
+    }
+}
+
+// One body all the way, for a record and a table that the host lends.
+#[no_mangle]
+pub extern "C" fn dsg_receive(
+    held: &mut Collection,
+    table: &mut Table,
+    slots: &mut [u8],
+    join: &mut [u8],
+    body: &[u8],
+) -> Received
+    ensures { λ r. ⌜ record { answer = r; held = now (held .exit); table = now (table .exit); slots = now (slots .exit); join = now (join .exit) } ≡ receiveAfter (now (held .entry)) (now (table .entry)) (now (slots .entry)) (now (join .entry)) (now (body .entry)) ⌝ }
+{
+    let s = receive_value(*held, *table, slots, join, body);
+    *held = s.held;
+    *table = s.table;
     s.answer
 }
 

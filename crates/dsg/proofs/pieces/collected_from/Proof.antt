@@ -1,8 +1,8 @@
--- `dsg::bodies::collected_from` gives `collectedOf`: each arm rewrites by the variant that it is for.
+-- `dsg::pieces::collected_from` gives `collectedOf`: each arm rewrites by the variant that it is for.
 -- Trusts: nothing.
 use borrow.Author.Needs.{needs}
-use Rattle.dsg.proofs.bodies.collected_from.Statement.{statement}
-use Rattle.dsg.proofs.bodies.collected_from.Tie as tie
+use Rattle.dsg.proofs.pieces.collected_from.Statement.{statement}
+use Rattle.dsg.proofs.pieces.collected_from.Tie as tie
 
 -- Refused, Repeat, Waiting, Complete
 returns : tie.Need-returns
