@@ -6,7 +6,7 @@
 --   relationOf-goesOn      where the body goes on, the record is well made and its number the body's
 --   baseOf-number, baseOf-short    the record that the piece is noted in
 --   step-refused, step-again, step-waiting, step-alone, step-joined    each answer of the code, as the step has it
---   lentOf-own, lentOf-joined, joinedOf-rest    the two parts that a message is lent from
+--   lentOf-own, lentOf-joined, joinedOf-rest, step-lent    the two parts that a message is lent from
 -- Trusts: nothing.
 use Prim.Native.Nat.{ℕ, zero, suc, _+_, _*_, _-_, _≤_, _<_}
 use mathlib.Core.Path.{_≡_, refl, sym, ap, _∙_}
@@ -18,9 +18,10 @@ use lib.ListN.{length, getD, set, replicate, getD-replicate, take, drop}
 use lib.Dec.{ltb, leb, eqb}
 use Rattle.wire.specs.Bytes.{pasted, sameBytes}
 use Rattle.wire.proofs.Laws.{both, rest-all}
-use Rattle.collector.specs.Answers.{Said, refused, again, waiting, complete, lentOf, joinedOf}
+use Rattle.collector.specs.Answers.{Said, refused, again, waiting, complete, lentOf, ownOf, joinedOf}
 use Rattle.collector.specs.Pieces.{isFilled, emptySlots, soundTo, pieceAt, joined}
 use Rattle.collector.specs.Step.{countOf, numberOf, slotOf, pieceOf, bodyRefusal, refusalOf, wellMade, isOf, goesOn, repeats, anew, relationOf, emptyCollection, baseOf, noted, After, after, finished, accepted, collectStep}
+use Rattle.collector.specs.Lent.{LentAfter, lentStep}
 use Rattle.collector.specs.Duties.{Fits}
 use Rattle.collector.specs.declared.Collection.{Collection}
 use Rattle.collector.proofs.Laws.{soundTo-at, slotSound-len}
@@ -191,3 +192,9 @@ joinedOf-rest (refused n) number join = none-front (eqb number 1) join
 joinedOf-rest again number join = none-front (eqb number 1) join
 joinedOf-rest (waiting k) number join = none-front (eqb number 1) join
 joinedOf-rest (complete n) number join = some-front (eqb number 1) n join []
+
+pub step-lent : (r : Collection) (slots join body : List ℕ) (R : After) (own part rest : List ℕ) → R ≡ collectStep r slots join body → own ≡ ownOf (R .answer) (R .held .number) body
+    → part ≡ joinedOf (R .answer) (R .held .number) (R .join) → rest ≡ drop (length (joinedOf (R .answer) (R .held .number) (R .join))) (R .join)
+    → _≡_ {A = LentAfter} (record { answer = R .answer; held = R .held; slots = R .slots; own = own; joined = part; rest = rest }) (lentStep r slots join body)
+unfolding lentStep
+step-lent r slots join body R own part rest e f g h = rw (← e, f, g, h) refl

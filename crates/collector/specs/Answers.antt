@@ -8,7 +8,7 @@
 --   joinedOf a number join     the part of the join buffer that is, otherwise
 --
 -- Refusals of the collector carry the offset 0, so none is kept.
--- Tested by: the bench example in proofs/Bench.antt.
+-- Tested by: the bench example in proofs/Bench.antt of collector_demands.
 -- Trusts: nothing.
 use Prim.Native.Nat.{ℕ}
 use mathlib.Core.Bool.{cond}

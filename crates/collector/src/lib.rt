@@ -17,6 +17,7 @@ ghost use Rattle.collector.specs.Pieces.{emptySlots, mostFlag, mostLengt
 ghost use Rattle.collector.specs.Answers.{said, lentOf, ownOf, joinedOf};
 ghost use Rattle.collector.specs.Duties.{Fits};
 ghost use Rattle.collector.specs.Step.{pieceOf, bodyRefusal, refusalOf, wellMade, relationOf, emptyCollection, noted, baseOf, After, collectStep};
+ghost use Rattle.collector.specs.Lent.{LentAfter, lentStep};
 
 // The least length of a lent buffer, the bytes of a slot, and the most bytes of a piece.
 pub const BUFFER_BYTES: usize = 24000;
@@ -417,7 +418,7 @@ pub fn collect_lent<'b, 'j, 's>(
     join: &'j mut [u8],
     body: &'b [u8],
 ) -> Lent<'b, 'j>
-    ensures { λ r. ⌜ (record { answer = said (r .outcome .answer); held = r .outcome .held; slots = now (slots .exit); join = now (r .joined) ++ now (r .rest) } ≡ collectStep held (now (slots .entry)) (now (join .entry)) (now (body .entry))) × (now (r .own) ≡ ownOf (said (r .outcome .answer)) (r .outcome .held .number) (now (body .entry))) × (now (r .joined) ≡ joinedOf (said (r .outcome .answer)) (r .outcome .held .number) (now (r .joined) ++ now (r .rest))) ⌝ }
+    ensures { λ r. ⌜ record { answer = said (r .outcome .answer); held = r .outcome .held; slots = now (slots .exit); own = now (r .own); joined = now (r .joined); rest = now (r .rest) } ≡ lentStep held (now (slots .entry)) (now (join .entry)) (now (body .entry)) ⌝ }
 {
     let outcome = collect(held, slots, &mut *join, body);
     let own = own_part(outcome, body);

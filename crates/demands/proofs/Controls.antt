@@ -1,5 +1,6 @@
 -- Controls: wrong programs of document 01, "What the contracts must settle", refuted: none of them meets the promise that it breaks.
 --
+--   no-refuse-all              reading: one that refuses every message
 --   no-one-tunnel              choosing: one that gives every client the same rule
 --   no-still-modem             the step: one that returns the record untouched
 --   no-first-piece-completes   collecting: one that completes at the first piece
@@ -17,7 +18,11 @@ use lib.ListN.{length, replicate, length-replicate}
 use Rattle.table.specs.declared.Client.{Client}
 use Rattle.table.specs.declared.Rule.{Rule}
 use Rattle.table.specs.declared.Table.{Table}
-use Rattle.table.specs.Table.{rulesOf, clientsOf, emptyClient, emptyRule, emptyClassifier, defaultTimers}
+use Rattle.table.specs.Table.{rulesOf, clientsOf, emptyClient, emptyRule, emptyClassifier, defaultTimers, emptyTable}
+use Rattle.reader.specs.Read.{readTable}
+use Rattle.reader.specs.declared.Reading.{Reading}
+use Rattle.reader.specs.declared.Verdict.the-variants.{Accepted}
+use Rattle.demands.proofs.Messages.{read-empty}
 use Rattle.choice.specs.declared.Ucid.{Ucid}
 use Rattle.choice.specs.declared.Ucid.the-variants.{Unknown, Known}
 use Rattle.choice.specs.declared.Choice.{Choice}
@@ -39,6 +44,12 @@ use Rattle.collector_demands.specs.Runs.{accepts, Reply}
 use Rattle.collector_demands.specs.Demand.{Lent, isComplete}
 use Rattle.collector_demands.proofs.Demands.{blank-nothing}
 use Rattle.collector_demands.proofs.Controls as collector
+
+-- ---- reading
+
+pub no-refuse-all : (f : Table → List ℕ → Reading) → ((given : Table) (msg : List ℕ) → f given msg ≡ readTable given msg)
+    → ((given : Table) (msg : List ℕ) → f given msg .verdict ≡ Accepted → ⊥) → ⊥
+no-refuse-all f meets refuses = refuses emptyTable [] (ap (λ (r : Reading). r .verdict) (meets emptyTable [] ∙ read-empty emptyTable))
 
 -- ---- choosing
 

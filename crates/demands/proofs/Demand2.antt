@@ -4,17 +4,16 @@
 -- gives, for every input, the definition. What the definitions mean is for a reader to see (docs/MAP.md).
 -- Trusts: nothing.
 use Prim.Native.Nat.{ℕ}
-use mathlib.Core.Path.{_≡_, refl, sym, ap, _∙_}
-use mathlib.Core.List.{List, _++_}
-use lib.ListN.{length, drop}
-use lib.Seq.{drop-append-seam}
+use mathlib.Core.Path.{_≡_, refl}
+use mathlib.Core.List.{List}
 use contract.Lifetimes.{Lfts}
 use denote.Ref.{now}
 use denote.Triple.Entry.{Args, Res}
 use denote.Triple.Clauses.{AtExit}
 use Rattle.demands.proofs.Contract.{Gives, Says, answer}
-use Rattle.collector.specs.Answers.{said, lentOf, ownOf, joinedOf}
+use Rattle.collector.specs.Answers.{said, lentOf}
 use Rattle.collector.specs.Step.{emptyCollection, After, collectStep}
+use Rattle.collector.specs.Lent.{LentAfter, lentStep}
 use Rattle.collector.proofs.empty_collection.Reads as empty_collection
 use Rattle.collector.proofs.collect.Reads as collect
 use Rattle.collector.proofs.collect.Statement as collect′
@@ -23,6 +22,10 @@ use Rattle.collector.proofs.message.Reads as message
 use Rattle.collector.proofs.collect_lent as collect_lent
 use Rattle.collector.proofs.collect_lent.Statement as collect_lent′
 use Rattle.collector.proofs.collect_lent.Met as collect_lent″
+use Rattle.reader.specs.Read.{readTable}
+use Rattle.reader.proofs.read_table.Reads as read_table
+use Rattle.reader.proofs.read_table.Statement as read_table′
+use Rattle.reader.proofs.read_table.Met as read_table″
 use Rattle.choice.specs.Best.{isBetter}
 use Rattle.choice.specs.Choose.{choiceOf}
 use Rattle.choice.proofs.is_better.Reads as is_better
@@ -75,10 +78,8 @@ empty_collection-gives κs a x s h = h
 -- `collect_lent-says` is that this is the contract
 abbrev pub CollectLent : (κs : Lfts 3) → Args collect_lent.signature κs → Res collect_lent.signature κs → AtExit collect_lent.ended κs → Type 0
 CollectLent κs a x s =
-    (_≡_ {A = After} (record { answer = said (x .outcome .answer); held = x .outcome .held; slots = now (s .1 .0); join = now (x .joined) ++ now (x .rest) })
-    (collectStep (a .0) (now (a .1 .0)) (now (a .1 .1 .0)) (now (a .1 .1 .1 .0))))
-    × (now (x .own) ≡ ownOf (said (x .outcome .answer)) (x .outcome .held .number) (now (a .1 .1 .1 .0)))
-    × (now (x .joined) ≡ joinedOf (said (x .outcome .answer)) (x .outcome .held .number) (now (x .joined) ++ now (x .rest)))
+    _≡_ {A = LentAfter} (record { answer = said (x .outcome .answer); held = x .outcome .held; slots = now (s .1 .0); own = now (x .own); joined = now (x .joined); rest = now (x .rest) })
+    (lentStep (a .0) (now (a .1 .0)) (now (a .1 .1 .0)) (now (a .1 .1 .1 .0)))
 
 pub collect_lent-met : {M : Type 1} → collect_lent′.statement M
 collect_lent-met = collect_lent″.met
@@ -86,33 +87,17 @@ collect_lent-met = collect_lent″.met
 pub collect_lent-says : Says collect_lent.ended (λ M 𝓤 H. collect_lent.clauses 𝓤 H) CollectLent
 collect_lent-says M 𝓤 H A mem run κs a g x s = refl
 
--- what is left of a call that lends: the step, and the three parts
-pub record Parts : Type 0 where
-  pub after : After
-  pub own : List ℕ
-  pub joined : List ℕ
-  pub rest : List ℕ
+pub collect_lent-gives : (κs : Lfts 3) → Gives {L = LentAfter} (λ x s. record { answer = said (x .outcome .answer); held = x .outcome .held; slots = now (s .1 .0); own = now (x .own); joined = now (x .joined); rest = now (x .rest) })
+    (CollectLent κs) (λ a. lentStep (a .0) (now (a .1 .0)) (now (a .1 .1 .0)) (now (a .1 .1 .1 .0)))
+collect_lent-gives κs a x s h = h
 
--- the parts that a step and a body give
-abbrev pub partsOf : After → List ℕ → Parts
-partsOf t body =
-    let joined = joinedOf (t .answer) (t .held .number) (t .join) in
-    record { after = t; own = ownOf (t .answer) (t .held .number) body; joined = joined; rest = drop (length joined) (t .join) }
+-- ---- reading a table: the verdict and the table
 
--- whatever is a step's join buffer in two parts, of which the first is the message's, is in just these parts
-parts : (t u : After) (body own joined rest : List ℕ) → u ≡ t → u .join ≡ joined ++ rest → own ≡ ownOf (u .answer) (u .held .number) body
-    → joined ≡ joinedOf (u .answer) (u .held .number) (u .join) → _≡_ {A = Parts} (record { after = u; own = own; joined = joined; rest = rest }) (partsOf t body)
-parts t u body own joined rest e f g h =
-    let d : rest ≡ drop (length joined) (u .join) = sym (rw f (drop-append-seam joined rest)) in
-    ap (λ (l : List ℕ). record { after = u; own = own; joined = joined; rest = l }) d
-    ∙ ap (λ (l : List ℕ). record { after = u; own = l; joined = joined; rest = drop (length joined) (u .join) }) g
-    ∙ ap (λ (l : List ℕ). record { after = u; own = ownOf (u .answer) (u .held .number) body; joined = l; rest = drop (length l) (u .join) }) h
-    ∙ ap (λ (v : After). partsOf v body) e
+pub read_table-met : {M : Type 1} → read_table′.statement M
+read_table-met = read_table″.met
 
-pub collect_lent-gives : (κs : Lfts 3)
-    → Gives {L = Parts} (λ x s. record { after = record { answer = said (x .outcome .answer); held = x .outcome .held; slots = now (s .1 .0); join = now (x .joined) ++ now (x .rest) }; own = now (x .own); joined = now (x .joined); rest = now (x .rest) })
-    (CollectLent κs) (λ a. partsOf (collectStep (a .0) (now (a .1 .0)) (now (a .1 .1 .0)) (now (a .1 .1 .1 .0))) (now (a .1 .1 .1 .0)))
-collect_lent-gives κs a x s h = parts _ _ _ _ _ _ (h .0) refl (h .1) (h .2)
+pub read_table-gives : (κs : Lfts 1) → Gives answer (read_table.Post κs) (λ a. readTable (a .0) (now (a .1 .0)))
+read_table-gives κs a x s h = h
 
 -- ---- choosing the tunnel for a client
 

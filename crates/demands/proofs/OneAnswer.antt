@@ -5,7 +5,6 @@
 -- answer of the collector what it says: `said-only` of crate collector_demands, proofs/Controls.antt, is that this is the answer.
 -- Not here: `main` of dcdlist, whose contract can say nothing of what is read or written (docs/CONTRACTS.md).
 -- Trusts: nothing.
-use mathlib.Core.List.{_++_}
 use contract.Lifetimes.{Lfts}
 use denote.Ref.{now}
 use Rattle.demands.proofs.Contract.{One, only, answer}
@@ -14,6 +13,7 @@ use Rattle.demands.proofs.Demand2 as demand2
 use Rattle.listing.specs.Listing.{Listing, written}
 use Rattle.collector.specs.Answers.{said}
 use Rattle.collector.specs.Step.{After}
+use Rattle.collector.specs.Lent.{LentAfter}
 use Rattle.modem.specs.declared.Stepped.{Stepped}
 use Rattle.wire.proofs.number2.Reads as number2
 use Rattle.wire.proofs.number4.Reads as number4
@@ -33,6 +33,7 @@ use Rattle.rows.proofs.test_element.Reads as test_element
 use Rattle.contents.proofs.rule_at.Reads as rule_at
 use Rattle.contents.proofs.classifier_at.Reads as classifier_at
 use Rattle.contents.proofs.configuration_at.Reads as configuration_at
+use Rattle.reader.proofs.read_table.Reads as read_table
 use Rattle.collector.proofs.empty_collection.Reads as empty_collection
 use Rattle.collector.proofs.collect.Reads as collect
 use Rattle.collector.proofs.message.Reads as message
@@ -116,6 +117,11 @@ classifier_at-one κs = only (parts.classifier_at-gives κs)
 pub configuration_at-one : (κs : Lfts 1) → One answer (configuration_at.Post κs)
 configuration_at-one κs = only (parts.configuration_at-gives κs)
 
+-- ---- reader
+
+pub read_table-one : (κs : Lfts 1) → One answer (read_table.Post κs)
+read_table-one κs = only (demand2.read_table-gives κs)
+
 -- ---- collector
 
 pub empty_collection-one : (κs : Lfts 0) → One answer (empty_collection.Post κs)
@@ -127,7 +133,7 @@ collect-one κs = only (demand2.collect-gives κs)
 pub message-one : (κs : Lfts 1) → One (λ x s. now x) (message.Post κs)
 message-one κs = only (demand2.message-gives κs)
 
-pub collect_lent-one : (κs : Lfts 3) → One {L = demand2.Parts} (λ x s. record { after = record { answer = said (x .outcome .answer); held = x .outcome .held; slots = now (s .1 .0); join = now (x .joined) ++ now (x .rest) }; own = now (x .own); joined = now (x .joined); rest = now (x .rest) }) (demand2.CollectLent κs)
+pub collect_lent-one : (κs : Lfts 3) → One {L = LentAfter} (λ x s. record { answer = said (x .outcome .answer); held = x .outcome .held; slots = now (s .1 .0); own = now (x .own); joined = now (x .joined); rest = now (x .rest) }) (demand2.CollectLent κs)
 collect_lent-one κs = only (demand2.collect_lent-gives κs)
 
 -- ---- choice

@@ -6,7 +6,7 @@ ghost use mathlib.Core.Path.{_≡_};
 ghost use Prim.Native.Nat.{_-_};
 ghost use lib.ListN.{length};
 ghost use Rattle.tunnel.specs.Judge.{verdictOf};
-ghost use Rattle.tunnel.specs.Prepared.{preparedTunnel, preparedVerdict};
+ghost use Rattle.tunnel.specs.Prepared.{preparedTunnel, lentTunnel, preparedVerdict};
 ghost use Rattle.dsg.specs.Frames.{clientOf, ucidOf, choiceAs, choiceFor, verdictAs, verdictFor};
 use choice::Ucid;
 use table::Client;
@@ -154,19 +154,55 @@ pub extern "C" fn dsg_prepare(table: &Table, kind: u8, value: u64, known: u8, uc
     prepare_value(*table, kind, value, known, ucid)
 }
 
-// The verdict on a frame, by a prepared tunnel by value.
-fn judge_prepared_value(tunnel: Tunnel, frame: &[u8]) -> Verdict
-    ensures { λ r. ⌜ r ≡ verdictAs (preparedVerdict tunnel (now (frame .entry))) (length (now (frame .entry))) ⌝ }
+// The verdict on a frame, by the parts of a prepared tunnel.
+fn judge_parts<'a, 'b>(
+    mode: u8,
+    address: u64,
+    count: u8,
+    destinations: &'a [u32; 32],
+    sources: &'a [u32; 32],
+    masks: &'a [u32; 32],
+    starts: &'a [u16; 32],
+    ends: &'a [u16; 32],
+    numbers: &'a [u16; 32],
+    ports: &'a [u8; 32],
+    frame: &'b [u8],
+) -> Verdict
+    ensures { λ r. ⌜ r ≡ verdictAs (preparedVerdict (lentTunnel mode address count (now (destinations .entry)) (now (sources .entry)) (now (masks .entry)) (now (starts .entry)) (now (ends .entry)) (now (numbers .entry)) (now (ports .entry))) (now (frame .entry))) (length (now (frame .entry))) ⌝ }
 {
-    let verdict = tunnel::judge_prepared(tunnel, frame);
+    let verdict = tunnel::judge_lent(
+        mode,
+        address,
+        count,
+        destinations,
+        sources,
+        masks,
+        starts,
+        ends,
+        numbers,
+        ports,
+        frame,
+    );
     let length = frame.len();
     verdict_from(verdict, length)
 }
 
-// The verdict on a frame, by a prepared tunnel that the host lends.
+// The verdict on a frame, by a prepared tunnel that the host lends. Its arrays are lent on: a frame costs no copy.
 #[no_mangle]
 pub extern "C" fn dsg_judge_prepared(tunnel: &Tunnel, frame: &[u8]) -> Verdict
     ensures { λ r. ⌜ r ≡ verdictAs (preparedVerdict (now (tunnel .entry)) (now (frame .entry))) (length (now (frame .entry))) ⌝ }
 {
-    judge_prepared_value(*tunnel, frame)
+    judge_parts(
+        tunnel.mode,
+        tunnel.address,
+        tunnel.count,
+        &tunnel.destinations,
+        &tunnel.sources,
+        &tunnel.masks,
+        &tunnel.starts,
+        &tunnel.ends,
+        &tunnel.numbers,
+        &tunnel.ports,
+        frame,
+    )
 }

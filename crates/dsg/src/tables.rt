@@ -1,11 +1,64 @@
-// What a host does with a table: begin with an empty one, and list it.
+// What a host does with a table: begin with an empty one, read a message into it, list it.
 //
-// `dsg_empty_table` and `dsg_list_table`.
+// `dsg_empty_table`, `dsg_read` and `dsg_list_table`.
 ghost use mathlib.Core.Path.{_≡_};
 ghost use Rattle.table.specs.Table.{emptyTable};
 ghost use Rattle.listing.specs.Listing.{written};
-ghost use Rattle.dsg.specs.Tables.{listedAs, listAfter};
+ghost use Rattle.dsg.specs.Tables.{readAnswer, readStepped, listedAs, listAfter};
 use table::Table;
+
+// What a message is answered: number 0, or the refusal and the offset that it concerns.
+#[repr(C)]
+pub struct ReadAnswer {
+    pub number: u32,
+    pub offset: usize,
+}
+
+// An answer, and the table after it.
+struct ReadStepped {
+    answer: ReadAnswer,
+    table: Table,
+}
+
+// The numbers of a verdict on a message.
+fn answer_from(verdict: reader::Verdict) -> ReadAnswer
+    ensures { λ r. ⌜ r ≡ readAnswer verdict ⌝ }
+{
+    match verdict {
+        reader::Verdict::Accepted => ReadAnswer {
+            number: 0,
+            offset: 0,
+        },
+        reader::Verdict::Refused(n, offset) => ReadAnswer {
+            number: n as u32,
+            offset,
+        },
+    }
+}
+
+// A message for a table by value.
+fn read_value(table: Table, message: &[u8]) -> ReadStepped
+    ensures { λ r. ⌜ r ≡ readStepped table (now (message .entry)) ⌝ }
+{
+    let reading = reader::read_table(table, message);
+    let verdict = reading.verdict;
+    let after = reading.table;
+    let answer = answer_from(verdict);
+    ReadStepped {
+        answer,
+        table: after,
+    }
+}
+
+// A message for a table that the host lends.
+#[no_mangle]
+pub extern "C" fn dsg_read(table: &mut Table, message: &[u8]) -> ReadAnswer
+    ensures { λ r. ⌜ record { answer = r; table = now (table .exit) } ≡ readStepped (now (table .entry)) (now (message .entry)) ⌝ }
+{
+    let s = read_value(*table, message);
+    *table = s.table;
+    s.answer
+}
 
 // What a listing is answered: number 0 and the length of the text, or the refusal.
 #[repr(C)]

@@ -30,7 +30,7 @@ pub record Kept (ruleids classifierids : List ℕ) (t : Table) : Type 0 where
   pub ruled : take (t .rulecount) ruleids ≡ ruleNumbers t
   pub classified : take (t .classifiercount) classifierids ≡ classifierNumbers t
 
-limited-same : (limit n : ℕ) → n ≤ limit → limitedTo limit n ≡ n
+pub limited-same : (limit n : ℕ) → n ≤ limit → limitedTo limit n ≡ n
 limited-same limit n h = simp (le-ltb limit n h)
 
 -- the rule as it goes to the next place, and the classifier

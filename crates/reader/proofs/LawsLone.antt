@@ -26,7 +26,7 @@ use Rattle.reader.proofs.Lists.{getD-within, front-next, front-end}
 pub limited-le : (limit n : ℕ) {m : ℕ} → m ≡ limitedTo limit n → m ≤ limit
 limited-le limit n e = rw e (limitedTo-le limit n)
 
-listed-append : (n : ℕ) (s t : List ℕ) → isListed n (s ++ t) ≡ (isListed n s || isListed n t)
+pub listed-append : (n : ℕ) (s t : List ℕ) → isListed n (s ++ t) ≡ (isListed n s || isListed n t)
 listed-append n [] t = refl
 listed-append n (x ∷ s) t = on (eqb x n) (listed-append n s t)
   where

@@ -1,4 +1,4 @@
--- `collector::collect_lent` gives `collectStep`, with the message in two parts: a walk of its MIR by hand. `collect`, which does the work, is called with the
+-- `collector::collect_lent` gives `lentStep`: a walk of its MIR by hand. `collect`, which does the work, is called with the
 -- record, the slot buffer, which is passed on for good (`gave-slice`), the body, and the join buffer, which is lent again for a lifetime of the call and comes
 -- back (Again.antt). The join buffer is then spent in `share`; the outcome, which is Copy, is handed to the three functions that cut the parts.
 -- Trusts: nothing.
@@ -47,7 +47,7 @@ use Rattle.collector.specs.Step.{After, collectStep}
 use Rattle.collector.specs.declared.Collection.{Collection}
 use Rattle.collector.specs.declared.Outcome.{Outcome}
 use Rattle.collector.specs.declared.Lent.{Lent}
-use Rattle.collector.proofs.LawsStep.{joinedOf-rest}
+use Rattle.collector.proofs.LawsStep.{step-lent}
 use Rattle.collector.proofs.Collection as R
 use Rattle.collector.proofs.Collection.Laws as R′
 use Rattle.collector.proofs.Outcome as O
@@ -194,12 +194,6 @@ module _ {M : Type 1} (𝓤 : URA M) (H : Heap 𝓤) (A : Atoms 𝓤) (W : Given
   goes-rest : (r : Outcome) (t : RefT (List ℕ)) → ent 𝓤 (sep 𝓤 (sep 𝓤 (A .lft κ q) (sem 𝓤 H A ftrue)) (sem 𝓤 H A (fsep (O.the-row .own r (LL.vals O.the-type O′.the-laws r)) (fsep (ShrSlice (named 0) κ u8 .own t (slice-vals t)) ftrue)))) (Rest 𝓤 H A mem run .pre (to-rest r t))
   goes-rest r t = qed W ((‵ (flft κ q) ⊛ ‵ ftrue) ∷ ‵ (fsep (O.the-row .own r (LL.vals O.the-type O′.the-laws r)) (fsep (ShrSlice (named 0) κ u8 .own t (slice-vals t)) ftrue)) ∷ []) ∵ join ! $ frame ! $ done !
 
-  -- the two parts of the shared join buffer are all of it
-  both-parts : (r : Outcome) (x₁ y t : RefT (List ℕ)) → now x₁ ≡ joinedOf (said (r .answer)) (r .held .number) (now t)
-      → now y ≡ listn.drop (length (joinedOf (said (r .answer)) (r .held .number) (now t))) (now t) → now x₁ ++ now y ≡ now t
-  both-parts r x₁ y t e f =
-      ap (λ (l : List ℕ). l ++ now y) e ∙ ap (λ (l : List ℕ). joinedOf (said (r .answer)) (r .held .number) (now t) ++ l) f ∙ joinedOf-rest (said (r .answer)) (r .held .number) (now t)
-
   -- the result, its type and its laws
   abbrev made : Outcome → RefT (List ℕ) → RefT (List ℕ) → RefT (List ℕ) → Lent
   made r u x₁ y = record { outcome = r; own = u; joined = x₁; rest = y }
@@ -210,13 +204,13 @@ module _ {M : Type 1} (𝓤 : URA M) (H : Heap 𝓤) (A : Atoms 𝓤) (W : Given
   abbrev β : NamedLft
   β = namedLft 3 1 tt κs
 
-  exits : (r : Outcome) (u x₁ y : RefT (List ℕ)) (zs₀ : List ℕ) → Done r zs₀ (now x₁ ++ now y) → now u ≡ ownOf (said (r .answer)) (r .held .number) (now d)
-      → now x₁ ≡ joinedOf (said (r .answer)) (r .held .number) (now x₁ ++ now y) → length zs₀ ≡ length (now xs)
+  exits : (r : Outcome) (u x₁ y : RefT (List ℕ)) (zs₀ zs : List ℕ) → Done r zs₀ zs → now u ≡ ownOf (said (r .answer)) (r .held .number) (now d)
+      → now x₁ ≡ joinedOf (said (r .answer)) (r .held .number) zs → now y ≡ listn.drop (length (joinedOf (said (r .answer)) (r .held .number) zs)) zs → length zs₀ ≡ length (now xs)
       → ent 𝓤 (⋆ 𝓤 H A (‵ (flft κ₀ q₀) ∷ (‵ (flft κ q) ⊛ ‵ ftrue) ∷ (‵ (flft κ₂ q₂) ⊛ ‵ ftrue) ∷ ‵ (finally u8 (xs .name) zs₀) ∷ ‵ (O.the-row .own r (LL.vals O.the-type O′.the-laws r)) ∷ ‵ (ShrSlice (named 0) κ₂ u8 .own u (slice-vals u)) ∷ ‵ (ShrSlice (named 0) κ u8 .own x₁ (slice-vals x₁)) ∷ ‵ (ShrSlice (named 0) κ u8 .own y (slice-vals y)) ∷ []))
       (Post (LL.val (T.the-type α β) (T′.the-laws α β) (made r u x₁ y)))
-  exits r u x₁ y zs₀ e f g l =
+  exits r u x₁ y zs₀ zs e f g o₁ l =
       qed W (‵ (flft κ₀ q₀) ∷ (‵ (flft κ q) ⊛ ‵ ftrue) ∷ (‵ (flft κ₂ q₂) ⊛ ‵ ftrue) ∷ ‵ (finally u8 (xs .name) zs₀) ∷ ‵ (O.the-row .own r (LL.vals O.the-type O′.the-laws r)) ∷ ‵ (ShrSlice (named 0) κ₂ u8 .own u (slice-vals u)) ∷ ‵ (ShrSlice (named 0) κ u8 .own x₁ (slice-vals x₁)) ∷ ‵ (ShrSlice (named 0) κ u8 .own y (slice-vals y)) ∷ []) ∵
-      suffices ! _ (ends-at 𝓤 H A top.ended stayed (top.clauses 𝓤 H A mem run) W ((κs, (q₀, (q, (q₂, tt))), tt, a γ, at), tt) (LL.val (T.the-type α β) (T′.the-laws α β) (made r u x₁ y)) (made r u x₁ y) (tt, (zs₀, (tt, (tt, tt)))) (tt, (l, (tt, (tt, tt))))) $ says ! (e, f, g) $
+      suffices ! _ (ends-at 𝓤 H A top.ended stayed (top.clauses 𝓤 H A mem run) W ((κs, (q₀, (q, (q₂, tt))), tt, a γ, at), tt) (LL.val (T.the-type α β) (T′.the-laws α β) (made r u x₁ y)) (made r u x₁ y) (tt, (zs₀, (tt, (tt, tt)))) (tt, (l, (tt, (tt, tt))))) $ says ! (step-lent h (now xs) ys (now d) (record { answer = said (r .answer); held = r .held; slots = zs₀; join = zs }) (now u) (now x₁) (now y) e f g o₁) $
       move ! (1 ∷ []) $ split ! $ move ! (1 ∷ []) $ drop ! $ move ! (0 ∷ 2 ∷ []) $ join ! $ move ! (1 ∷ 0 ∷ []) $ join ! $ frame ! $
       -- [the last list; the outcome's; the three parts']
       nothing ! $ nothing ! $ nothing ! $ fjoin ! $ move ! (1 ∷ 0 ∷ []) $ fjoin ! $ move ! (1 ∷ 0 ∷ []) $ fjoin ! $ nothing ! $ fjoin ! $ frame ! $
@@ -305,7 +299,7 @@ module _ {M : Type 1} (𝓤 : URA M) (H : Heap 𝓤) (A : Atoms 𝓤) (W : Given
         (init ! 38 refl (LL.lawful (T.the-type α β) (T′.the-laws α β) 𝓤 H A W .typed (made r u x₁ y) _ (LL.owes (T.the-type α β) (T′.the-laws α β) (made r u x₁ y) (subst (Is O.the-row r) (LL.tells O.the-type O′.the-laws r _ is) is, (subst (Is (ShrSlice (named 2) κ₂ u8) u) (shr-slice-tells (named 0) κ₂ u8 u _ is₂) is₂, (subst (Is (ShrSlice (named 1) κ u8) x₁) (shr-slice-tells (named 0) κ u8 x₁ _ is₃) is₃, (subst (Is (ShrSlice (named 1) κ u8) y) (shr-slice-tells (named 0) κ u8 y _ is₄) is₄, tt))))) .0)) $
         returns ! (look ! 38 refl) $ forget ! 8 refl $ forget ! 10 refl $ forget ! 12 refl $ forget ! 14 refl $ forget ! 16 refl $ forget ! 18 refl $ forget ! 20 refl $ forget ! 22 refl $ forget ! 24 refl $ forget ! 26 refl $ forget ! 28 refl $ forget ! 30 refl $ forget ! 32 refl $ forget ! 34 refl $ forget ! 36 refl $ forget ! 38 refl $
         move ! (38 ∷ 39 ∷ []) $ free1 ! $ move ! (36 ∷ 37 ∷ []) $ free1 ! $ move ! (34 ∷ 35 ∷ []) $ free1 ! $ move ! (32 ∷ 33 ∷ []) $ free1 ! $ move ! (30 ∷ 31 ∷ []) $ free1 ! $ move ! (28 ∷ 29 ∷ []) $ free1 ! $ move ! (26 ∷ 27 ∷ []) $ free1 ! $ move ! (24 ∷ 25 ∷ []) $ free1 ! $ move ! (22 ∷ 23 ∷ []) $ free1 ! $ move ! (20 ∷ 21 ∷ []) $ free1 ! $ move ! (18 ∷ 19 ∷ []) $ free1 ! $ move ! (16 ∷ 17 ∷ []) $ free1 ! $ move ! (14 ∷ 15 ∷ []) $ free1 ! $ move ! (12 ∷ 13 ∷ []) $ free1 ! $ move ! (10 ∷ 11 ∷ []) $ free1 ! $ move ! (8 ∷ 9 ∷ []) $ free1 ! $ free0 ! $
-        keep ! (6 ∷ 1 ∷ 5 ∷ 7 ∷ 3 ∷ 4 ∷ 2 ∷ 0 ∷ []) $ by ! (exits r u x₁ y (zs .1 .0) (ap (λ (l′ : List ℕ). record { answer = said (r .answer); held = r .held; slots = zs .1 .0; join = l′ }) (both-parts r x₁ y t e₃ e₄ ∙ e′) ∙ e) e₂ (e₃ ∙ ap (joinedOf (said (r .answer)) (r .held .number)) (sym (both-parts r x₁ y t e₃ e₄))) k))))))))))))))))))))))))))))))))))))))))))
+        keep ! (6 ∷ 1 ∷ 5 ∷ 7 ∷ 3 ∷ 4 ∷ 2 ∷ 0 ∷ []) $ by ! (exits r u x₁ y (zs .1 .0) (zs .1 .1 .0) e e₂ (e₃ ∙ ap (joinedOf (said (r .answer)) (r .held .number)) e′) (e₄ ∙ ap (λ (l′ : List ℕ). listn.drop (length (joinedOf (said (r .answer)) (r .held .number) l′)) l′) e′) k))))))))))))))))))))))))))))))))))))))))))
 
 module _ {M : Type 1} (𝓤 : URA M) (H : Heap 𝓤) (A : Atoms 𝓤) (W : Given 𝓤 H A) (mem : Memory → SProp 𝓤) (run : Routine → Fun 𝓤) where
   lent-walks : (C : Calls 𝓤 H) (Λ : Loops 𝓤 H) → FmC 𝓤 H (W .laws) C → Triple 𝓤 (C #collector·collect) (Work 𝓤 H A mem run) → Triple 𝓤 (C #collector·own-part) (Own 𝓤 H A mem run) → Triple 𝓤 (C #collector·joined-part) (Joined 𝓤 H A mem run) → Triple 𝓤 (C #collector·rest-part) (Rest 𝓤 H A mem run) → Triple 𝓤 (C #collector·share) (Share′ 𝓤 H A mem run) → Walks 𝓤 H A top.ended stayed (WpFn 𝓤 H C Λ code.function) (top.clauses 𝓤 H A mem run)
