@@ -1,15 +1,16 @@
 // Chooses the rule for a client (document 01, "Choosing and judging").
 //
-// Two public functions. `choose_rule` takes any lent table, client and UCID, and answers the rule's place
-// or refusal 17; `is_better` is the order in which rules, and classifiers too, are preferred. Both take
-// any input; a count above its limit is read as the limit. Nothing is written.
+// Three public functions. `choose_rule` takes any lent table, client and UCID, and answers the rule's place
+// or refusal 17; `rule_at` gives the rule there; `is_better` is the order in which rules, and classifiers
+// too, are preferred. All take any input; a count above its limit is read as the limit. Nothing is written.
 use table::Client;
 use table::Rule;
 use table::Table;
+use table::empty_rule;
 use table::limited;
 ghost use mathlib.Core.Path.{_≡_};
 ghost use Rattle.choice.specs.Best.{isBetter, bestAfter};
-ghost use Rattle.choice.specs.Choose.{isClient, listsClient, listsUcid, admitsUcid, fitsClient, choiceOf};
+ghost use Rattle.choice.specs.Choose.{isClient, listsClient, listsUcid, admitsUcid, fitsClient, choiceOf, ruleAt};
 
 // What is known of the upstream channel.
 pub enum Ucid {
@@ -156,4 +157,14 @@ pub fn choose_rule(table: Table, client: Client, ucid: Ucid) -> Choice
         return Choice::Refused(17);
     }
     Choice::Chosen(place)
+}
+
+// The rule at a place of the table; an unused one beyond its last rule.
+pub fn rule_at(table: Table, place: usize) -> Rule
+    ensures { λ r. ⌜ r ≡ ruleAt table place ⌝ }
+{
+    if place < limited(table.rulecount, 32) {
+        return table.rules[place];
+    }
+    empty_rule()
 }

@@ -11,24 +11,22 @@ use native.Mathlib.Nat.{zero-add}
 use borrow.Author.Tests.{lt-ltb, le-ltb}
 use lib.ListN.{length, drop}
 use Rattle.wire.proofs.Laws.{pasted-fits, length-pasted}
-use Rattle.listing.specs.declared.Listed.{Listed}
-use Rattle.listing.specs.declared.Listed.the-variants.{Text, Refused}
-use Rattle.listing.specs.Listing.{Listing, listing}
+use Rattle.listing.specs.Listing.{text, refused, listing}
 use Rattle.listing.specs.Writing.{Lined}
 use Rattle.listing.proofs.Lengths.{join-short}
 use Rattle.listing.proofs.Written.{fits-most, wrote-then}
 
-pub listing-refused : (text out : List ℕ) → length out < 3755 → record { answer = Refused 100; out = out } ≡ listing text out
+pub listing-refused : (bytes out : List ℕ) → length out < 3755 → record { answer = refused 100; out = out } ≡ listing bytes out
 unfolding listing
-listing-refused text out h = rw (lt-ltb (length out) 3755 h) refl
+listing-refused bytes out h = rw (lt-ltb (length out) 3755 h) refl
 
-pub listing-text : {most : ℕ} {text out new : List ℕ} {next : ℕ} → 3755 ≤ length out → most ≤ 3755 → Lined most out 0 text new next → record { answer = Text next; out = new } ≡ listing text out
+pub listing-text : {most : ℕ} {bytes out new : List ℕ} {next : ℕ} → 3755 ≤ length out → most ≤ 3755 → Lined most out 0 bytes new next → record { answer = text next; out = new } ≡ listing bytes out
 unfolding listing
-listing-text {most} {text} {out} {new} {next} h m w =
-    let place : next ≡ length text = w .wrote .place ∙ zero-add (length text) in
-    let bytes : new ≡ text ++ drop (length text) out =
-    w .wrote .bytes ∙ pasted-fits out 0 text (omega (arith, w .short .bytes)) ∙ ap (λ (k : ℕ). text ++ drop k out) (zero-add (length text)) in
-    rw (le-ltb (length out) 3755 h, place, bytes) refl
+listing-text {most} {bytes} {out} {new} {next} h m w =
+    let place : next ≡ length bytes = w .wrote .place ∙ zero-add (length bytes) in
+    let same : new ≡ bytes ++ drop (length bytes) out =
+    w .wrote .bytes ∙ pasted-fits out 0 bytes (omega (arith, w .short .bytes)) ∙ ap (λ (k : ℕ). bytes ++ drop k out) (zero-add (length bytes)) in
+    rw (le-ltb (length out) 3755 h, place, same) refl
 
 -- what follows the first text is told that it has room
 pub lined-then : {out : List ℕ} {at : ℕ} {s t new last : List ℕ} {next end : ℕ} (m n : ℕ) → at + (m + n) ≤ length out → Lined m out at s new next → (next + n ≤ length new → Lined n new next t last end) → Lined (m + n) out at (s ++ t) last end

@@ -1,0 +1,70 @@
+-- `contents::rule_in` gives the fold of withRuleChild.
+-- The loop keeps that the fold from `at` on, over what it has, is the fold from the start. Every arm is one more step of that fold; what is left falls.
+-- Trusts: nothing.
+use borrow.Author.Needs.{needs}
+use Prim.Native.Nat.{ℕ, _-_}
+use mathlib.Core.Path.{_≡_, refl, sym, ap, _∙_}
+use mathlib.Core.Logic.{⊎-elim}
+use native.Mathlib.Omega.{arith}
+use Rattle.contents.specs.Rows.{rowFold, rowIn}
+use Rattle.table.specs.Table.{emptyRule}
+use Rattle.contents.specs.Rules.{withRuleChild}
+use Rattle.contents.proofs.Laws.{item-fits, fold-stop, fold-item}
+use Rattle.contents.proofs.LawsRules.{withRuleChild-number, withRuleChild-priority, withRuleChild-ucids, withRuleChild-long, withRuleChild-clients, withRuleChild-tunnel, withRuleChild-named, withRuleChild-full, withRuleChild-other}
+use Rattle.contents.proofs.rule_in.Statement.{statement}
+use Rattle.contents.proofs.rule_in.Tie as tie
+
+abbrev Inv-loop : tie.InvT-loop
+Inv-loop message from end rule₀ at₀ rule at =
+    rowFold (withRuleChild message) (rowIn message at end) rule ≡ rowFold (withRuleChild message) (rowIn message from end) emptyRule
+
+abbrev μ-loop : tie.MeasureT-loop
+μ-loop message from end rule₀ at₀ rule at = end - at
+
+pub rule-in-spec : {M : Type 1} → statement M
+rule-in-spec =
+    tie.close
+    (tie.spec
+    Inv-loop
+    μ-loop
+    (λ c κs. search needs)
+    (λ c. rw (c .empty-rule .ensures))
+    (λ c κs. search needs)
+    (λ c. search needs)
+    (λ c. fold-stop _ _ _ _ _ (c .before .read-head .ensures) (λ len v. ⊎-elim (λ (z : _≡_ {A = ℕ} 2 0). omega arith) (λ (z : _≡_ {A = ℕ} 2 1). omega arith) (rw v at (c .match .keys2))) ∙ c .before .before .loop .inv)
+    (λ c. let fits = item-fits _ _ _ (c .before .before .before .before .read-head .ensures) (c .before .before .len .given .1) in omega arith)
+    (λ c. let fits = item-fits _ _ _ (c .before .before .before .before .read-head .ensures) (c .before .before .len .given .1) in omega arith)
+    (λ c. let fits = item-fits _ _ _ (c .before .before .before .before .read-head .ensures) (c .before .before .len .given .1) in omega arith)
+    (λ c κs. search needs)
+    (λ c. let fits = item-fits _ _ _ (c .before .before .before .before .before .before .read-head .ensures) (c .before .before .before .before .len .given .1) in omega arith)
+    (λ c. fold-item _ _ _ _ _ (c .before .before .before .before .before .before .read-head .ensures) (c .before .before .before .before .len .given .1) (withRuleChild-number _ _ _ _ (c .before .match2 .keys1) (c .byte-at .ensures)) ∙ c .before .before .before .before .before .before .before .loop .inv)
+    (λ c κs. search needs)
+    (λ c. let fits = item-fits _ _ _ (c .before .before .before .before .before .before .read-head .ensures) (c .before .before .before .before .len .given .1) in omega arith)
+    (λ c. fold-item _ _ _ _ _ (c .before .before .before .before .before .before .read-head .ensures) (c .before .before .before .before .len .given .1) (withRuleChild-priority _ _ _ _ (c .before .match2 .keys2) (c .byte-at2 .ensures)) ∙ c .before .before .before .before .before .before .before .loop .inv)
+    (λ c. let fits = item-fits _ _ _ (c .before .before .before .before .before .before .before .read-head .ensures) (c .before .before .before .before .before .len .given .1) in omega arith)
+    (λ c. let fits = item-fits _ _ _ (c .before .before .before .before .before .before .before .read-head .ensures) (c .before .before .before .before .before .len .given .1) in omega arith)
+    (λ c. let fits = item-fits _ _ _ (c .before .before .before .before .before .before .before .read-head .ensures) (c .before .before .before .before .before .len .given .1) in omega arith)
+    (λ c. let fits = item-fits _ _ _ (c .before .before .before .before .before .before .before .read-head .ensures) (c .before .before .before .before .before .len .given .1) in omega arith)
+    (λ c κs. search needs)
+    (λ c. search needs)
+    (λ c. let fits = item-fits _ _ _ (c .before .before .before .before .before .before .before .before .before .before .read-head .ensures) (c .before .before .before .before .before .before .before .before .len .given .1) in omega arith)
+    (λ c. fold-item _ _ _ _ _ (c .before .before .before .before .before .before .before .before .before .before .read-head .ensures) (c .before .before .before .before .before .before .before .before .len .given .1) (withRuleChild-ucids _ _ _ _ (c .before .before .before .before .before .match2 .keys3) (c .before .before .before .before .if1 .taken) (c .before .copy-at .ensures)) ∙ c .before .before .before .before .before .before .before .before .before .before .before .loop .inv)
+    (λ c. let fits = item-fits _ _ _ (c .before .before .before .before .before .before .read-head .ensures) (c .before .before .before .before .len .given .1) in omega arith)
+    (λ c. fold-item _ _ _ _ _ (c .before .before .before .before .before .before .read-head .ensures) (c .before .before .before .before .len .given .1) (withRuleChild-long _ _ _ _ (c .before .match2 .keys3) (c .if1 .left)) ∙ c .before .before .before .before .before .before .before .loop .inv)
+    (λ c κs. search needs)
+    (λ c. let fits = item-fits _ _ _ (c .before .before .before .before .before .before .before .read-head .ensures) (c .before .before .before .before .before .len .given .1) in omega arith)
+    (λ c. fold-item _ _ _ _ _ (c .before .before .before .before .before .before .before .read-head .ensures) (c .before .before .before .before .before .len .given .1) (withRuleChild-clients _ _ _ _ (c .before .before .match2 .keys4) (c .before .clients-in .ensures)) ∙ c .before .before .before .before .before .before .before .before .loop .inv)
+    (λ c κs. search needs)
+    (λ c. let fits = item-fits _ _ _ (c .before .before .before .before .before .before .read-head .ensures) (c .before .before .before .before .len .given .1) in omega arith)
+    (λ c. fold-item _ _ _ _ _ (c .before .before .before .before .before .before .read-head .ensures) (c .before .before .before .before .len .given .1) (withRuleChild-tunnel _ _ _ _ (c .before .match2 .keys5) (c .number6 .ensures)) ∙ c .before .before .before .before .before .before .before .loop .inv)
+    (λ c κs. search needs)
+    (λ c. search needs)
+    (λ c. search needs)
+    (λ c. search needs)
+    (λ c. search needs)
+    (λ c. let fits = item-fits _ _ _ (c .before .before .before .before .before .before .before .read-head .ensures) (c .before .before .before .before .before .len .given .1) in omega arith)
+    (λ c. fold-item _ _ _ _ _ (c .before .before .before .before .before .before .before .read-head .ensures) (c .before .before .before .before .before .len .given .1) (withRuleChild-named _ _ _ _ (c .before .before .match2 .keys6) (c .before .if2 .taken) (c .number2 .ensures)) ∙ c .before .before .before .before .before .before .before .before .loop .inv)
+    (λ c. let fits = item-fits _ _ _ (c .before .before .before .before .before .before .read-head .ensures) (c .before .before .before .before .len .given .1) in omega arith)
+    (λ c. fold-item _ _ _ _ _ (c .before .before .before .before .before .before .read-head .ensures) (c .before .before .before .before .len .given .1) (withRuleChild-full _ _ _ _ (c .before .match2 .keys6) (c .if2 .left)) ∙ c .before .before .before .before .before .before .before .loop .inv)
+    (λ c. let fits = item-fits _ _ _ (c .before .before .before .before .before .read-head .ensures) (c .before .before .before .len .given .1) in omega arith)
+    (λ c. fold-item _ _ _ _ _ (c .before .before .before .before .before .read-head .ensures) (c .before .before .before .len .given .1) (withRuleChild-other _ _ _ _ (c .match2 .rest .0 .0 .0 .0 .0 .1) (c .match2 .rest .0 .0 .0 .0 .1) (c .match2 .rest .0 .0 .0 .1) (c .match2 .rest .0 .0 .1) (c .match2 .rest .0 .1) (c .match2 .rest .1)) ∙ c .before .before .before .before .before .before .loop .inv))

@@ -1,0 +1,14 @@
+-- `modem::rows::start` gives `startRow`.
+-- Trusts: nothing.
+use borrow.Author.Needs.{needs}
+use Rattle.modem.specs.Events.{startRow}
+use Rattle.modem.proofs.rows.start.Statement.{statement}
+use Rattle.modem.proofs.rows.start.Tie as tie
+
+pub start-spec : {M : Type 1} → statement M
+unfolding startRow
+start-spec =
+    tie.close
+    (tie.spec
+    (λ c κs. search needs)
+    (λ c. rw (c .mark .ensures)))

@@ -1,0 +1,5 @@
+pub mod States
+pub mod Record
+pub mod Events
+pub mod Step
+pub mod Numbers

@@ -1,0 +1,82 @@
+-- Judge: the verdict on a frame (document 01, "Choosing and judging").
+--
+--   wrongLength frame        under 14 or over 1,518 bytes
+--   addressAt frame          the number of the first six bytes
+--   namesNumber rule n       the rule names the classifier number n
+--   matchPlace t rule frame  the place of the matching classifier: of those that the rule names and that match, the
+--                            greatest priority, then the smallest number; the count where none matches
+--   ruleVerdict t rule frame the verdict of a chosen rule: Other, Forward or Filtered
+--   verdictOf t c u frame    the verdict: 16, then 17, then the chosen rule's
+--   payloadOf v frame        the part of the frame that is lent back: from byte 14 on with Forward, else nothing
+--   refusalOf, numberOf      what a verdict says: the paper's refusal number, 0 for none; the classifier's, 0 for none
+--
+-- A number that no classifier of the table carries never matches; of a repeated number every entry is tried.
+-- Tested by: random tables and frames against the other program. Trusts: nothing.
+use Prim.Native.Nat.{ℕ}
+use mathlib.Core.Bool.{Bool, cond, not, _&&_, _||_}
+use mathlib.Core.List.{List}
+use lib.ListN.{length, getD, drop}
+use lib.Dec.{ltb, eqb}
+use Rattle.table.specs.declared.Client.{Client}
+use Rattle.table.specs.declared.Rule.{Rule}
+use Rattle.table.specs.declared.Classifier.{Classifier}
+use Rattle.table.specs.declared.Table.{Table}
+use Rattle.table.specs.Table.{classifiersOf, numbersOf, emptyClassifier}
+use Rattle.wire.specs.Bytes.{numberAt}
+use Rattle.choice.specs.declared.Ucid.{Ucid}
+use Rattle.choice.specs.declared.Choice.{Choice}
+use Rattle.choice.specs.declared.Choice.the-variants as choice
+use Rattle.choice.specs.Best.{anyOf, bestPlace}
+use Rattle.choice.specs.Choose.{choiceOf, ruleAt}
+use Rattle.tunnel.specs.declared.Verdict.{Verdict}
+use Rattle.tunnel.specs.declared.Verdict.the-variants.{Refused, Other, Forward, Filtered}
+use Rattle.tunnel.specs.Match.{matchesFrame}
+
+unfoldable pub wrongLength : List ℕ → Bool
+wrongLength frame = ltb (length frame) 14 || ltb 1518 (length frame)
+
+unfoldable pub addressAt : List ℕ → ℕ
+addressAt frame = numberAt 6 frame 0
+
+unfoldable pub namesNumber : Rule → ℕ → Bool
+namesNumber rule n = anyOf (eqb n) (numbersOf rule)
+
+unfoldable pub matchPlace : Table → Rule → List ℕ → ℕ
+matchPlace t rule frame =
+    bestPlace (λ cl. cl .priority) (λ cl. cl .number) (λ cl. matchesFrame frame cl && namesNumber rule (cl .number)) (classifiersOf t)
+
+unfoldable pub ruleVerdict : Table → Rule → List ℕ → Verdict
+ruleVerdict t rule frame =
+    cond (not (eqb (addressAt frame) (rule .tunnel))) Other
+    (cond (eqb (rule .numbercount) 0) (Forward 0)
+    (cond (ltb (matchPlace t rule frame) (length (classifiersOf t))) (Forward (getD (classifiersOf t) (matchPlace t rule frame) emptyClassifier .number)) Filtered))
+
+-- the verdict of a choice
+unfoldable pub choiceVerdict : Table → List ℕ → Choice → Verdict
+choiceVerdict t frame (choice.Refused n) = Refused n
+choiceVerdict t frame (choice.Chosen place) = ruleVerdict t (ruleAt t place) frame
+
+unfoldable pub verdictOf : Table → Client → Ucid → List ℕ → Verdict
+verdictOf t c u frame = cond (wrongLength frame) (Refused 16) (choiceVerdict t frame (choiceOf t c u))
+
+-- where the part begins that is lent back of a frame of n bytes; it ends with the frame
+unfoldable pub payloadStart : Verdict → ℕ → ℕ
+payloadStart (Refused k) n = n
+payloadStart Other n = n
+payloadStart (Forward k) n = cond (ltb n 14) n 14
+payloadStart Filtered n = n
+
+unfoldable pub payloadOf : Verdict → List ℕ → List ℕ
+payloadOf v frame = drop (payloadStart v (length frame)) frame
+
+abbrev pub refusalOf : Verdict → ℕ
+refusalOf (Refused n) = n
+refusalOf Other = 0
+refusalOf (Forward n) = 0
+refusalOf Filtered = 0
+
+abbrev pub numberOf : Verdict → ℕ
+numberOf (Refused n) = 0
+numberOf Other = 0
+numberOf (Forward n) = n
+numberOf Filtered = 0

@@ -1,0 +1,160 @@
+// The verdict on a frame by a table, and the part of a forwarded frame.
+use crate::Packet;
+use crate::Verdict;
+use crate::matching::entry_of;
+use crate::matching::fits_packet;
+use crate::matching::is_ipv4;
+use crate::matching::packet_of;
+use choice::Best;
+use choice::Choice;
+use choice::Ucid;
+use choice::choose_rule;
+use choice::is_better;
+use choice::rule_at;
+use table::Classifier;
+use table::Client;
+use table::Rule;
+use table::Table;
+use table::limited;
+use wire::number6;
+ghost use mathlib.Core.Path.{_≡_};
+ghost use mathlib.Core.Bool.{_&&_};
+ghost use Rattle.choice.specs.Best.{bestAfter};
+ghost use Rattle.tunnel.specs.Judge.{wrongLength, namesNumber, matchPlace, ruleVerdict, verdictOf, payloadStart, payloadOf};
+ghost use Rattle.tunnel.specs.Entry.{entryOf, fitsPacket};
+
+// Whether the frame is under 14 or over 1,518 bytes.
+pub fn wrong_length(frame: &[u8]) -> bool
+    ensures { λ r. ⌜ r ≡ wrongLength (now (frame .entry)) ⌝ }
+{
+    if frame.len() < 14 {
+        return true;
+    }
+    1518 < frame.len()
+}
+
+// Whether the rule names this classifier number.
+pub fn names_number(rule: Rule, number: u16) -> bool
+    ensures { λ r. ⌜ r ≡ namesNumber rule number ⌝ }
+{
+    let n = limited(rule.numbercount, 8);
+    let mut j: usize = 0;
+    while j < 8 {
+        if n <= j {
+            return false;
+        }
+        if number == rule.numbers[j] {
+            return true;
+        }
+        j += 1;
+    }
+    false
+}
+
+// The best so far after the classifier at place `at`.
+fn take_classifier(best: Best, at: usize, rule: Rule, cl: Classifier, packet: Packet) -> Best
+    ensures { λ r. ⌜ r ≡ bestAfter best at (cl .priority) (cl .number) (fitsPacket packet (entryOf cl) && namesNumber rule (cl .number)) ⌝ }
+{
+    if !is_better(best, cl.priority, cl.number) {
+        return best;
+    }
+    let e = entry_of(cl);
+    if !fits_packet(e, packet) {
+        return best;
+    }
+    if !names_number(rule, cl.number) {
+        return best;
+    }
+    Best {
+        place: at,
+        priority: cl.priority,
+        number: cl.number,
+    }
+}
+
+// The place of the matching classifier; the number of classifiers where none matches.
+fn match_place(table: Table, rule: Rule, frame: &[u8]) -> usize
+    ensures { λ r. ⌜ r ≡ matchPlace table rule (now (frame .entry)) ⌝ }
+{
+    let n = limited(table.classifiercount, 32);
+    if !is_ipv4(frame) {
+        return n;
+    }
+    let packet = packet_of(frame);
+    let mut best = Best {
+        place: 32,
+        priority: 0,
+        number: 0,
+    };
+    let mut i: usize = 0;
+    while i < n {
+        let cl = table.classifiers[i];
+        best = take_classifier(best, i, rule, cl, packet);
+        i += 1;
+    }
+    let place = best.place;
+    if place == 32 {
+        return n;
+    }
+    place
+}
+
+// The verdict of a chosen rule on a frame.
+fn judge_rule(table: Table, rule: Rule, frame: &[u8]) -> Verdict
+    ensures { λ r. ⌜ r ≡ ruleVerdict table rule (now (frame .entry)) ⌝ }
+{
+    if number6(frame, 0) != rule.tunnel {
+        return Verdict::Other;
+    }
+    if rule.numbercount == 0 {
+        return Verdict::Forward(0);
+    }
+    let k = match_place(table, rule, frame);
+    if k < limited(table.classifiercount, 32) {
+        let cl = table.classifiers[k];
+        return Verdict::Forward(cl.number);
+    }
+    Verdict::Filtered
+}
+
+// The verdict on a frame for a client: refusal 16, then 17, then the chosen rule's.
+pub fn judge_frame(table: Table, client: Client, ucid: Ucid, frame: &[u8]) -> Verdict
+    ensures { λ r. ⌜ r ≡ verdictOf table client ucid (now (frame .entry)) ⌝ }
+{
+    if wrong_length(frame) {
+        return Verdict::Refused(16);
+    }
+    match choose_rule(table, client, ucid) {
+        Choice::Refused(n) => Verdict::Refused(n),
+        Choice::Chosen(k) => {
+            let rule = rule_at(table, k);
+            judge_rule(table, rule, frame)
+        }
+    }
+}
+
+// Where the part begins that a verdict lends back of a frame of n bytes.
+pub fn payload_start(verdict: Verdict, n: usize) -> usize
+    ensures { λ r. ⌜ r ≡ payloadStart verdict n ⌝ }
+{
+    match verdict {
+        Verdict::Refused(_) => n,
+        Verdict::Other => n,
+        Verdict::Forward(_) => {
+            if n < 14 {
+                return n;
+            }
+            14
+        }
+        Verdict::Filtered => n,
+    }
+}
+
+// The part of the frame that the verdict lends back: of a forwarded frame the bytes from 14 on, else none.
+pub fn payload(verdict: Verdict, frame: &[u8]) -> &[u8]
+    ensures { λ r. ⌜ now r ≡ payloadOf verdict (now (frame .entry)) ⌝ }
+{
+    let n = frame.len();
+    let from = payload_start(verdict, n);
+    &frame[from..n]
+}

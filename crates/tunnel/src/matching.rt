@@ -1,0 +1,117 @@
+// Whether a classifier matches a frame. The tests stand in the document's order; nothing is written.
+use crate::Entry;
+use crate::Packet;
+use table::Classifier;
+use wire::number2;
+use wire::number4;
+ghost use mathlib.Core.Path.{_≡_};
+ghost use Rattle.tunnel.specs.Match.{isIpv4, hasPort, presentOr};
+ghost use Rattle.tunnel.specs.Entry.{portsOf, entryOf, packetOf, fitsPacket};
+
+// Whether the frame is an IPv4 packet of 34 bytes or more.
+pub fn is_ipv4(frame: &[u8]) -> bool
+    ensures { λ r. ⌜ r ≡ isIpv4 (now (frame .entry)) ⌝ }
+{
+    if frame.len() < 34 {
+        return false;
+    }
+    if number2(frame, 12) != 2048 {
+        return false;
+    }
+    frame[14] / 16 == 4
+}
+
+// Whether the packet has a port: protocol 6 or 17, no fragment behind the first, 38 bytes or more.
+pub fn has_port(frame: &[u8]) -> bool
+    ensures { λ r. ⌜ r ≡ hasPort (now (frame .entry)) ⌝ }
+{
+    if frame.len() < 38 {
+        return false;
+    }
+    if number2(frame, 20) % 8192 != 0 {
+        return false;
+    }
+    let protocol = frame[23];
+    if protocol == 6 {
+        return true;
+    }
+    protocol == 17
+}
+
+// What the classifiers look at in the frame.
+pub fn packet_of(frame: &[u8]) -> Packet
+    ensures { λ r. ⌜ r ≡ packetOf (now (frame .entry)) ⌝ }
+{
+    let destination = number4(frame, 30);
+    let source = number4(frame, 26);
+    let port = number2(frame, 36);
+    let ported = has_port(frame);
+    Packet {
+        destination,
+        source,
+        port,
+        ported,
+    }
+}
+
+// The mark's value where it is there, else the other.
+fn present16(mark: u8, value: u16, other: u16) -> u16
+    ensures { λ r. ⌜ r ≡ presentOr mark value other ⌝ }
+{
+    if mark == 0 { other } else { value }
+}
+
+// The same for an address.
+fn present32(mark: u8, value: u32, other: u32) -> u32
+    ensures { λ r. ⌜ r ≡ presentOr mark value other ⌝ }
+{
+    if mark == 0 { other } else { value }
+}
+
+// Whether the classifier names a port: 1 or 0.
+fn ports_of(hasstart: u8, hasend: u8) -> u8
+    ensures { λ r. ⌜ r ≡ portsOf hasstart hasend ⌝ }
+{
+    if hasstart != 0 {
+        return 1;
+    }
+    if hasend != 0 { 1 } else { 0 }
+}
+
+// The classifier with its absent parts filled in.
+pub fn entry_of(cl: Classifier) -> Entry
+    ensures { λ r. ⌜ r ≡ entryOf cl ⌝ }
+{
+    let mask = present32(cl.hasmask, cl.mask, 4294967295);
+    Entry {
+        destination: cl.destination,
+        source: present32(cl.hassource, cl.source, 0),
+        mask: present32(cl.hassource, mask, 0),
+        start: present16(cl.hasstart, cl.start, 0),
+        end: present16(cl.hasend, cl.end, 65535),
+        number: cl.number,
+        ports: ports_of(cl.hasstart, cl.hasend),
+    }
+}
+
+// Whether an IPv4 packet fits the entry.
+pub fn fits_packet(e: Entry, p: Packet) -> bool
+    ensures { λ r. ⌜ r ≡ fitsPacket p e ⌝ }
+{
+    if p.destination != e.destination {
+        return false;
+    }
+    if p.source & e.mask != e.source {
+        return false;
+    }
+    if e.ports == 0 {
+        return true;
+    }
+    if !p.ported {
+        return false;
+    }
+    if p.port < e.start {
+        return false;
+    }
+    p.port <= e.end
+}
