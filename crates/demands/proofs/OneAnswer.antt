@@ -95,7 +95,7 @@ read_head-one κs = only (parts.read_head-gives κs)
 pub find_type-one : (κs : Lfts 0) → One answer (find_type.Post κs)
 find_type-one κs = only (parts.find_type-gives κs)
 
-pub lacks_must-one : (κs : Lfts 0) → One answer (lacks_must.Post κs)
+pub lacks_must-one : (κs : Lfts 1) → One answer (lacks_must.Post κs)
 lacks_must-one κs = only (parts.lacks_must-gives κs)
 
 -- ---- rows

@@ -84,7 +84,7 @@ read_head-gives κs a x s h = h
 pub find_type-gives : (κs : Lfts 0) → Gives answer (find_type.Post κs) (λ a. typeUnder (a .0) (a .1 .0))
 find_type-gives κs a x s h = h
 
-pub lacks_must-gives : (κs : Lfts 0) → Gives answer (lacks_must.Post κs) (λ a. lacksMust (a .0) (a .1 .0))
+pub lacks_must-gives : (κs : Lfts 1) → Gives answer (lacks_must.Post κs) (λ a. lacksMust (a .0) (now (a .1 .0)))
 lacks_must-gives κs a x s h = h
 
 -- ---- rows

@@ -18,7 +18,7 @@ use lib.Dec.{eqb, ltb}
 use native.Mathlib.Nat.{not-suc-le-zero, le-of-suc-le-suc}
 use lib.ListN.{length, getD, List·getD-map}
 use Rattle.elements.specs.Types.{knownTypes}
-use Rattle.elements.specs.Places.{Line, line, noLine, childOf, under, placed, typeOf, parentIn, linesFrom, table, lineAt, placeIn, knownOfLine, knownAt, typeUnder, missingIn}
+use Rattle.elements.specs.Places.{Line, line, noLine, childOf, under, placed, typeOf, parentIn, table, lineAt, placeIn, knownOfLine, knownAt, typeUnder, missingIn}
 use Rattle.elements.specs.Packed.{lengthsOf, valuesOf, pack, packedAt, knownOf}
 use Rattle.elements.specs.declared.types.Length.the-variants.{Row, Bytes, NoneOr, OrMore}
 use Rattle.elements.specs.declared.types.Values.the-variants.{Any, NotZero, Channel}
@@ -55,7 +55,7 @@ lines =
     ∷ []
 
 pub table-lines : table ≡ lines
-unfolding knownTypes childOf under placed typeOf parentIn linesFrom table lines
+unfolding knownTypes childOf under placed typeOf parentIn table lines
 table-lines = refl
 
 -- ---- packed lines

@@ -70,7 +70,7 @@ abbrev pub line : ℕ → ℕ → Length → Bool → Bool → Values → ℕ �
 line t p s n r v m l k = record { kind = t; parent = p; size = s; need = n; repeats = r; values = v; room = m; list = l; place = k }
 
 -- the lines of the entries, numbered from k
-unfoldable pub linesFrom : ℕ → List Entry → List Line
+abbrev pub linesFrom : ℕ → List Entry → List Line
 linesFrom k [] = []
 linesFrom k (e ∷ es) =
     line (typeOf (e .path)) (parentIn placed 0 (e .path)) (e .size) (e .need) (e .repeats) (e .values) (e .room) (e .list) k ∷ linesFrom (k + 1) es

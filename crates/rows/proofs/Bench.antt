@@ -10,7 +10,7 @@ use Prim.Native.Nat.{ℕ}
 use Rattle.wire.specs.Bytes.{numberAt}
 use Rattle.elements.specs.Elements.{headAt}
 use Rattle.elements.specs.Types.{knownTypes}
-use Rattle.elements.specs.Places.{childOf, under, placed, typeOf, parentIn, linesFrom, table, lineAt, placeIn, knownAt, typeUnder, missingIn, lacksMust}
+use Rattle.elements.specs.Places.{childOf, under, placed, typeOf, parentIn, table, lineAt, placeIn, knownAt, typeUnder, missingIn, lacksMust}
 use Rattle.rows.specs.Tests.{secondCopy, wrongLength, noChannel, badValue, isFull, ownTests, isRow, rowEnd, emptyTally}
 use Rattle.rows.specs.Rows.{elementWith, rowStep, rowFrom, rowOf, elementOf, testedAt}
 use Rattle.rows.specs.declared.Tally.{Tally}
@@ -48,5 +48,5 @@ answers =
     ∷ []
 
 pub starred : map (λ q. says (testedAt (q .0) (q .1) (q .2))) asked ≡ answers
-unfolding numberAt headAt knownTypes childOf under placed typeOf parentIn linesFrom table lineAt placeIn knownAt typeUnder missingIn lacksMust secondCopy wrongLength noChannel badValue isFull ownTests isRow rowEnd elementWith rowStep rowFrom rowOf elementOf testedAt
+unfolding numberAt headAt knownTypes childOf under placed typeOf parentIn table lineAt placeIn knownAt typeUnder missingIn lacksMust secondCopy wrongLength noChannel badValue isFull ownTests isRow rowEnd elementWith rowStep rowFrom rowOf elementOf testedAt
 starred = refl
