@@ -1,4 +1,5 @@
 pub mod Answers
 pub mod Pieces
 pub mod Step
+pub mod Lent
 pub mod Duties

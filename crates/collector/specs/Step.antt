@@ -8,7 +8,7 @@
 --
 -- Any record and any lengths have a meaning. A record that no calls could have made counts as nothing collected: number 0 or over 16,
 -- a length over 1,497 or on an empty slot, a filled slot beyond the number, a number with no filled slot, a flag other than 0 and 1.
--- Tested by: the bench example in proofs/Bench.antt; runs of bodies against the other program in host/.
+-- Tested by: the bench example in proofs/Bench.antt of collector_demands; runs of bodies against the other program in host/.
 -- Trusts: nothing.
 use Prim.Native.Nat.{ℕ, _*_, _-_}
 use mathlib.Core.Bool.{Bool, cond, _&&_, _||_}

@@ -14,9 +14,10 @@ ghost use mathlib.Core.List.{_++_};
 ghost use lib.ListN.{length, take, drop, getD};
 ghost use Rattle.wire.specs.Bytes.{pasted};
 ghost use Rattle.collector.specs.Pieces.{emptySlots, mostFlag, mostLength, slotSound, soundTo, joined};
-ghost use Rattle.collector.specs.Answers.{said, lentOf};
+ghost use Rattle.collector.specs.Answers.{said, lentOf, ownOf, joinedOf};
 ghost use Rattle.collector.specs.Duties.{Fits};
 ghost use Rattle.collector.specs.Step.{pieceOf, bodyRefusal, refusalOf, wellMade, relationOf, emptyCollection, noted, baseOf, After, collectStep};
+ghost use Rattle.collector.specs.Lent.{LentAfter, lentStep};
 
 // The least length of a lent buffer, the bytes of a slot, and the most bytes of a piece.
 pub const BUFFER_BYTES: usize = 24000;
@@ -352,6 +353,47 @@ pub fn message<'a>(outcome: Outcome, body: &'a [u8], join: &'a [u8]) -> &'a [u8]
     }
 }
 
+// The bytes from the place `n` on, none where there are fewer.
+fn behind<'a>(bytes: &'a [u8], n: usize) -> &'a [u8]
+    ensures { λ r. ⌜ now r ≡ drop n (now (bytes .entry)) ⌝ }
+{
+    if n <= bytes.len() {
+        return &bytes[n..];
+    }
+    &bytes[..0]
+}
+
+// The part of the body that is lent with an outcome.
+fn own_part<'b>(outcome: Outcome, body: &'b [u8]) -> &'b [u8]
+    ensures { λ r. ⌜ now r ≡ ownOf (said (outcome .answer)) (outcome .held .number) (now (body .entry)) ⌝ }
+{
+    let number = outcome.held.number;
+    if number == 1 {
+        return message(outcome, body, body);
+    }
+    front(body, 0)
+}
+
+// The part of the join buffer that is lent with an outcome.
+fn joined_part<'j>(outcome: Outcome, join: &'j [u8]) -> &'j [u8]
+    ensures { λ r. ⌜ now r ≡ joinedOf (said (outcome .answer)) (outcome .held .number) (now (join .entry)) ⌝ }
+{
+    let number = outcome.held.number;
+    if number == 1 {
+        return front(join, 0);
+    }
+    message(outcome, join, join)
+}
+
+// The rest of the join buffer.
+fn rest_part<'j>(outcome: Outcome, join: &'j [u8]) -> &'j [u8]
+    ensures { λ r. ⌜ now r ≡ drop (length (joinedOf (said (outcome .answer)) (outcome .held .number) (now (join .entry)))) (now (join .entry)) ⌝ }
+{
+    let part = joined_part(outcome, join);
+    let n = part.len();
+    behind(join, n)
+}
+
 // The join buffer, shared for good.
 fn share<'j>(join: &'j mut [u8]) -> &'j [u8]
     ensures { λ r. ⌜ now r ≡ now (join .entry) ⌝ }
@@ -359,13 +401,14 @@ fn share<'j>(join: &'j mut [u8]) -> &'j [u8]
     &join[..]
 }
 
-// The outcome with the two slices that a complete message is lent from, each at its own lifetime: the
-// body's piece, which is the message where the number is 1, and the join buffer, at whose start the
-// message stands otherwise. It is lent whole, so that every byte of it is known.
+// The outcome with the message lent at two lifetimes: as a part of the body where it came in one piece,
+// else as a part of the join buffer; the other is empty, and both are where none is complete. The rest of
+// the join buffer is lent too, so that every byte of it is known.
 pub struct Lent<'b, 'j> {
     pub outcome: Outcome,
-    pub body: &'b [u8],
-    pub join: &'j [u8],
+    pub own: &'b [u8],
+    pub joined: &'j [u8],
+    pub rest: &'j [u8],
 }
 
 // `collect`, with the message lent back.
@@ -375,14 +418,17 @@ pub fn collect_lent<'b, 'j, 's>(
     join: &'j mut [u8],
     body: &'b [u8],
 ) -> Lent<'b, 'j>
-    ensures { λ r. ⌜ (record { answer = said (r .outcome .answer); held = r .outcome .held; slots = now (slots .exit); join = now (r .join) } ≡ collectStep held (now (slots .entry)) (now (join .entry)) (now (body .entry))) × (now (r .body) ≡ pieceOf (now (body .entry))) ⌝ }
+    ensures { λ r. ⌜ record { answer = said (r .outcome .answer); held = r .outcome .held; slots = now (slots .exit); own = now (r .own); joined = now (r .joined); rest = now (r .rest) } ≡ lentStep held (now (slots .entry)) (now (join .entry)) (now (body .entry)) ⌝ }
 {
     let outcome = collect(held, slots, &mut *join, body);
-    let own = piece(body);
+    let own = own_part(outcome, body);
     let shared = share(join);
+    let joined = joined_part(outcome, shared);
+    let rest = rest_part(outcome, shared);
     Lent {
         outcome,
-        body: own,
-        join: shared,
+        own,
+        joined,
+        rest,
     }
 }

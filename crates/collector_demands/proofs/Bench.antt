@@ -22,7 +22,7 @@ use Rattle.collector.specs.declared.Collection.{Collection}
 use Rattle.collector_demands.specs.Runs.{accepts, lookup, continues, runOf, missing, message, reply, replyOf}
 use Rattle.collector_demands.specs.Demand.{Lent, lentAfter, replyTo, isComplete, completions, concat, Cutting, bodyOf, Arrived, none, other, piece, Came, Apart, Demand3}
 use Rattle.collector_demands.proofs.Refine.{refusalOf-long}
-use Rattle.collector_demands.proofs.Demands.{blank-nothing, demand-2, demand-3}
+use Rattle.collector_demands.proofs.Demands.{blank-nothing, demand-2-nothing, demand-3}
 
 abbrev pub M : List ℕ
 M =
@@ -50,8 +50,8 @@ module _ (slots join : List ℕ) (room : 24000 ≤ length slots) (space : 24000 
 
   pub cut-collected : (replyTo (lending (emptyCollection 0 0)) [] secondBody ≡ reply (waiting 1) []) × (replyTo (lending (emptyCollection 0 0)) (secondBody ∷ []) firstBody ≡ reply (complete 52) M)
   cut-collected = (
-    demand-2 (lending (emptyCollection 0 0)) room space blank-nothing [] secondBody .0 ∙ cut-example .0,
-    demand-2 (lending (emptyCollection 0 0)) room space blank-nothing (secondBody ∷ []) firstBody .0 ∙ cut-example .1,
+    demand-2-nothing (lending (emptyCollection 0 0)) room space blank-nothing [] secondBody .0 ∙ cut-example .0,
+    demand-2-nothing (lending (emptyCollection 0 0)) room space blank-nothing (secondBody ∷ []) firstBody .0 ∙ cut-example .1,
   )
 
 -- ---- demand 3: its hypotheses can be met

@@ -24,8 +24,8 @@ use Rattle.collector.proofs.LawsStep.{fits-of}
 use Rattle.collector_demands.specs.Runs.{isFull, accepts, lookup, continues, runOf, missing, message, Reply, reply, storedReply, replyOf}
 use Rattle.collector_demands.specs.Demand.{Lent, lentAfter, told, isComplete}
 use Rattle.collector_demands.proofs.Holds.{lookup-own}
-use Rattle.collector_demands.proofs.Once.{missing-less, missing-all}
-use Rattle.collector_demands.proofs.Demands.{demand-2}
+use Rattle.collector_demands.proofs.Missing.{missing-less, missing-all}
+use Rattle.collector_demands.proofs.Demands.{demand-2-nothing}
 
 -- ---- one answer only
 
@@ -89,7 +89,7 @@ module _ (f : Collection → List ℕ → List ℕ → List ℕ → After) (meet
     replyBy-is h b =
         ap (λ (l : Lent). told (f (l .held) (l .slots) (l .join) b) b) (lentBy-is s h)
         ∙ ap (λ (a : After). told a b) (meets (lentAfter s h .held) (lentAfter s h .slots) (lentAfter s h .join) b)
-        ∙ demand-2 s room space nothing h b .0
+        ∙ demand-2-nothing s room space nothing h b .0
 
     -- the first piece of several: all other slots are empty
     first-missing : (b : List ℕ) → accepts b ≡ true → suc (missing (lookup (b ∷ [])) (numberOf b)) ≡ numberOf b

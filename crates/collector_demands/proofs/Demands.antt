@@ -1,111 +1,63 @@
 -- Demands 2 and 3 of the collector itself: `collectStep`, which is the whole promise of `collect`, over a history of bodies.
 --
---   demand-2      from a record with nothing collected, the replies to any history are those of the runs, and the record and the slot
---                 buffer hold the run
+--   demand-2      from any lent record the replies to any history are those of the runs, after the history that the record stands for, and
+--                 the record and the slot buffer hold the run; demand-2-nothing: with nothing collected that history is none
 --   demand-3      from any lent record that holds nothing, or another count or number, a cut message completes exactly once
---   length-cut    a cut message has at most 23,952 bytes
 -- Trusts: nothing.
-use Prim.Native.Nat.{ℕ, zero, suc, _+_, _*_, _-_, _≤_, _<_}
+use Prim.Native.Nat.{ℕ, _+_, _≤_, _<_}
 use mathlib.Core.Path.{_≡_, refl, sym, ap, _∙_}
-use mathlib.Core.Bool.{Bool, true, false, cond, _&&_, and-false}
-use mathlib.Core.List.{List, [], _∷_, _++_, append-assoc, append-nil}
+use mathlib.Core.Bool.{Bool, false, and-false}
+use mathlib.Core.List.{List, [], _∷_, _++_, append-nil}
 use mathlib.Core.Logic.{_⊎_, inl, inr, ⊎-elim}
 use native.Mathlib.Omega.{arith}
-use borrow.Author.Tests.{eqb-true, eq-eqb, ne-eqb}
-use lib.ListN.{length, getD, drop, take, length-append, length-drop}
-use lib.Seq.{take-suc, take-length}
+use borrow.Author.Tests.{eqb-true, ne-eqb}
+use lib.ListN.{length, getD}
 use lib.Dec.{eqb}
-use Rattle.wire.specs.Bytes.{pasted}
-use Rattle.collector.specs.Answers.{Said, refused, again, waiting, complete, lentOf}
-use Rattle.collector.specs.Pieces.{emptySlots, soundTo, joined}
-use Rattle.collector.specs.Step.{countOf, numberOf, slotOf, pieceOf, bodyRefusal, refusalOf, wellMade, isOf, repeats, anew, relationOf, emptyCollection, baseOf, noted, After, after, finished, accepted, collectStep}
+use Rattle.collector.specs.Answers.{Said, refused}
+use Rattle.collector.specs.Pieces.{emptySlots, soundTo}
+use Rattle.collector.specs.Step.{countOf, numberOf, bodyRefusal, refusalOf, wellMade, isOf, anew, relationOf, emptyCollection, baseOf, After, after, accepted, collectStep}
 use Rattle.collector.specs.declared.Collection.{Collection}
-use Rattle.collector.proofs.Laws.{length-joined}
-use Rattle.collector.proofs.LawsStep.{fits-of, refusalOf-room, baseOf-number, noted-short}
-use Rattle.collector_demands.specs.Runs.{accepts, runOf, Reply, reply, replyOf, HeldBy}
-use Rattle.collector_demands.specs.Demand.{Lent, called, lentAfter, told, replyTo, isComplete, completions, concat, Cutting, bodyOf, Arrived, none, other, piece, Came, Apart, Demand3}
-use Rattle.collector_demands.proofs.Refine.{Rep, idle, rep-held, refusalOf-long, step}
-use Rattle.collector_demands.proofs.Once.{wholeTo, completed, accepts-body, silent, once, last-reply}
-
--- ---- the join buffer keeps its length
-
-finished-join : (next : Collection) (slots join : List ℕ) (len : ℕ) → length (joined slots (next .lengths) (next .number)) ≤ length join → length (finished next slots join len .join) ≡ length join
-unfolding finished
-finished-join next slots join len h = go (eqb (emptySlots (next .filled) (next .number)) 0) (eqb (next .number) 1) where
-  go : (t u : Bool) → length (cond t (cond u (after (complete len) next slots join)
-      (after (complete (length (joined slots (next .lengths) (next .number)))) next slots (joined slots (next .lengths) (next .number) ++ drop (length (joined slots (next .lengths) (next .number))) join)))
-      (after (waiting (emptySlots (next .filled) (next .number))) next slots join) .join) ≡ length join
-  go true true = refl
-  go true false = simp (length-append, length-drop) (omega arith)
-  go false u = refl
-
-join-kept : (r : Collection) (slots join b : List ℕ) → length (collectStep r slots join b .join) ≡ length join
-unfolding collectStep accepted
-join-kept r slots join b = go (eqb (refusalOf (length slots) (length join) b) 0) refl (eqb (relationOf r slots b) 1) where
-  go : (t : Bool) → eqb (refusalOf (length slots) (length join) b) 0 ≡ t → (u : Bool) → length (cond t (cond u (after again r slots join)
-      (finished (noted (baseOf (relationOf r slots b) r b) (slotOf b) (length b - 3)) (pasted slots (slotOf b * 1500) (pieceOf b)) join (length b - 3)))
-      (after (refused (refusalOf (length slots) (length join) b)) r slots join) .join) ≡ length join
-  go true e true = refl
-  go true e false =
-      let room = refusalOf-room (length slots) (length join) b (eqb-true _ _ e) in
-      let fit = fits-of b (room .2) in
-      let n = baseOf-number r slots b in
-      finished-join (noted (baseOf (relationOf r slots b) r b) (slotOf b) (length b - 3)) (pasted slots (slotOf b * 1500) (pieceOf b)) join (length b - 3)
-      (omega (
-        arith,
-        room .1,
-        length-joined (pasted slots (slotOf b * 1500) (pieceOf b)) (noted (baseOf (relationOf r slots b) r b) (slotOf b) (length b - 3) .lengths) (baseOf (relationOf r slots b) r b .number)
-            (λ k q. noted-short r slots b k (fit .most) (omega arith)),
-      ))
-  go false e u = refl
+use Rattle.collector.proofs.LawsStep.{refusalOf-room}
+use Rattle.collector_demands.specs.Runs.{accepts, runOf, Reply, reply, replyOf, HeldBy, standsFor, Sized}
+use Rattle.collector_demands.specs.Demand.{Lent, called, lentAfter, told, replyTo, isComplete, completions, Cutting, bodyOf, Arrived, none, other, piece, Came, Apart, Demand3}
+use Rattle.collector_demands.proofs.Refine.{Rep, rep-held, refusalOf-long, step}
+use Rattle.collector_demands.proofs.Made.{rep-idle, rep-any}
+use Rattle.collector_demands.proofs.Kept.{join-kept, whole-all}
+use Rattle.collector_demands.proofs.Once.{completed, accepts-body, silent, once, last-reply}
 
 -- ---- demand 2
 
-module _ (s : Lent) (room : 24000 ≤ length (s .slots)) (space : 24000 ≤ length (s .join)) (nothing : wellMade (s .held) ≡ false) where
-  tracked : (h : List (List ℕ)) → Rep (runOf h) (lentAfter s h .held) (lentAfter s h .slots) × (length (lentAfter s h .join) ≡ length (s .join))
-  unfolding lentAfter runOf
-  tracked [] = (idle (s .held) (s .slots) room nothing, refl)
+-- from a record that has the run of the history o
+module _ (s : Lent) (room : 24000 ≤ length (s .slots)) (space : 24000 ≤ length (s .join)) (o : List (List ℕ)) (rep : Rep (runOf o) (s .held) (s .slots)) where
+  tracked : (h : List (List ℕ)) → Rep (runOf (h ++ o)) (lentAfter s h .held) (lentAfter s h .slots) × (length (lentAfter s h .join) ≡ length (s .join))
+  unfolding lentAfter
+  tracked [] = (rep, refl)
   tracked (b ∷ h) =
-      let i = tracked h in
-      (step h b (lentAfter s h .held) (lentAfter s h .slots) (lentAfter s h .join) (omega arith) (i .0) .rep, join-kept (lentAfter s h .held) (lentAfter s h .slots) (lentAfter s h .join) b ∙ i .1)
+      let i = tracked h in (
+        step (h ++ o) b (lentAfter s h .held) (lentAfter s h .slots) (lentAfter s h .join) (omega arith) (i .0) .rep,
+        join-kept (lentAfter s h .held) (lentAfter s h .slots) (lentAfter s h .join) b ∙ i .1,
+      )
 
-  pub demand-2 : (h : List (List ℕ)) (b : List ℕ) → (replyTo s h b ≡ replyOf h b) × HeldBy (runOf h) (lentAfter s h .held) (lentAfter s h .slots)
-  demand-2 h b =
+  follows : (h : List (List ℕ)) (b : List ℕ) → (replyTo s h b ≡ replyOf (h ++ o) b) × HeldBy (runOf (h ++ o)) (lentAfter s h .held) (lentAfter s h .slots)
+  follows h b =
       let i = tracked h in
-      (step h b (lentAfter s h .held) (lentAfter s h .slots) (lentAfter s h .join) (omega arith) (i .0) .reply-is, rep-held _ _ _ (i .0))
+      (step (h ++ o) b (lentAfter s h .held) (lentAfter s h .slots) (lentAfter s h .join) (omega arith) (i .0) .reply-is, rep-held _ _ _ (i .0))
+
+-- any lent record stands for a history, and the calls go on from there
+pub demand-2 : (s : Lent) → Sized (s .held) → 24000 ≤ length (s .slots) → 24000 ≤ length (s .join) → (h : List (List ℕ)) (b : List ℕ)
+    → (replyTo s h b ≡ replyOf (h ++ standsFor (s .held) (s .slots)) b) × HeldBy (runOf (h ++ standsFor (s .held) (s .slots))) (lentAfter s h .held) (lentAfter s h .slots)
+demand-2 s z room space = follows s room space (standsFor (s .held) (s .slots)) (rep-any (s .held) (s .slots) z room)
+
+-- with nothing collected that history has no body
+module _ (s : Lent) (room : 24000 ≤ length (s .slots)) (space : 24000 ≤ length (s .join)) (nothing : wellMade (s .held) ≡ false) where
+  pub demand-2-nothing : (h : List (List ℕ)) (b : List ℕ) → (replyTo s h b ≡ replyOf h b) × HeldBy (runOf h) (lentAfter s h .held) (lentAfter s h .slots)
+  demand-2-nothing h b = rw append-nil at (follows s room space [] (rep-idle (s .held) (s .slots) room nothing) h b)
 
   completions-are : (h : List (List ℕ)) → completions s h ≡ completed h
   unfolding completions completed
   completions-are [] = refl
   completions-are (b ∷ h) =
-      ap (λ (r : Reply). isComplete (r .answer) + completions s h) (demand-2 h b .0) ∙ ap (λ (m : ℕ). isComplete (replyOf h b .answer) + m) (completions-are h)
-
--- ---- a cut message
-
-concat-append : (a b : List (List ℕ)) → concat (a ++ b) ≡ concat a ++ concat b
-unfolding concat
-concat-append [] b = refl
-concat-append (x ∷ a) b = rw (concat-append a b) (sym (append-assoc x (concat a) (concat b)))
-
-whole-take : (ps : List (List ℕ)) (n : ℕ) → n ≤ length ps → wholeTo (λ k. getD ps k []) n ≡ concat (take n ps)
-unfolding wholeTo concat
-whole-take ps zero h = refl
-whole-take ps (suc n) h =
-    rw (take-suc ps n [] h, concat-append (take n ps) (getD ps n [] ∷ []), whole-take ps n (omega arith), append-nil (getD ps n [])) refl
-
-whole-all : (ps : List (List ℕ)) → wholeTo (λ k. getD ps k []) (length ps) ≡ concat ps
-whole-all ps = whole-take ps (length ps) (omega arith) ∙ ap concat (take-length ps)
-
-length-whole : (p : ℕ → List ℕ) (n : ℕ) → ((k : ℕ) → k < n → length (p k) ≤ 1497) → length (wholeTo p n) ≤ n * 1497
-unfolding wholeTo
-length-whole p zero h = omega arith
-length-whole p (suc n) h = simp length-append (omega (arith, length-whole p n (λ k q. h k (omega arith)), h n (omega arith)))
-
-pub length-cut : (message : List ℕ) (pieces : List (List ℕ)) → Cutting message pieces → length message ≤ 23952
-length-cut message pieces cut =
-    let e = ap length (whole-all pieces ∙ cut .whole) in
-    let few = cut .few in
-    omega (arith, length-whole (λ k. getD pieces k []) (length pieces) (cut .short))
+      ap (λ (r : Reply). isComplete (r .answer) + completions s h) (demand-2-nothing h b .0) ∙ ap (λ (m : ℕ). isComplete (replyOf h b .answer) + m) (completions-are h)
 
 -- ---- from any lent record: until a piece comes nothing changes, and the first piece begins anew, as it does from an empty record
 
@@ -206,7 +158,7 @@ demand-3 s room space c msg ps cut apart =
       once = λ {h} t g. completions-same s room space c ps (cut .some) (cut .few) (cut .short) a t
           ∙ completions-are (blank s) room space blank-nothing h ∙ once c ps (cut .some) (cut .few) (cut .short) t g;
       last = λ {h} t k l g f. reply-piece s room space c ps (cut .some) (cut .few) (cut .short) a t k l
-          ∙ demand-2 (blank s) room space blank-nothing h (bodyOf c ps k) .0
+          ∙ demand-2-nothing (blank s) room space blank-nothing h (bodyOf c ps k) .0
           ∙ last-reply c ps (cut .some) (cut .few) (cut .short) t k l g f
           ∙ rw (whole-all ps, cut .whole) refl;
     }

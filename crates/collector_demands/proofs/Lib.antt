@@ -1,11 +1,17 @@
+-- Missing: laws of a family of slots.
 -- Holds: a record and a slot buffer that hold a run, when a piece is put.
 -- Refine: one step does what the run says.
+-- Made: every well-made record is one that a history of bodies leaves.
+-- Kept: the join buffer's length, and that of a cut message.
 -- Once: a cut message completes once, over the runs.
 -- Demands: demand 2 from a record with nothing collected; demand 3 from any lent record.
 -- Bench: the starred example; that demand 3's hypotheses can be met, and that Apart is needed.
 -- Controls: one answer only; wrong collectors refuted.
+pub mod Missing
 pub mod Holds
 pub mod Refine
+pub mod Made
+pub mod Kept
 pub mod Once
 pub mod Demands
 pub mod Bench

@@ -7,6 +7,7 @@
 --   missing s n, message s n     how many of the first n slots are empty; their bytes together
 --   replyOf h b          the answer to a body after a history, and the message that is lent with it
 --   HeldBy run held slots        the record and the slot buffer hold exactly what the run has
+--   standsFor held slots         a history that leaves such a record and slot buffer: a body for each filled slot
 --
 -- A history is a list of bodies, the newest first; refused bodies may stand in it and change nothing. Both buffers are long enough.
 -- Tested by: the bench example in proofs/Bench.antt; runs of bodies against the other program in host/.
@@ -19,7 +20,7 @@ use lib.ListN.{length, getD}
 use lib.Dec.{eqb}
 use Rattle.wire.specs.Bytes.{sameBytes}
 use Rattle.collector.specs.Answers.{Said, refused, again, waiting, complete}
-use Rattle.collector.specs.Pieces.{pieceAt}
+use Rattle.collector.specs.Pieces.{isFilled, pieceAt}
 use Rattle.collector.specs.Step.{countOf, numberOf, slotOf, pieceOf, bodyRefusal, wellMade}
 use Rattle.collector.specs.declared.Collection.{Collection}
 
@@ -98,3 +99,19 @@ pub data HeldBy : List (List ℕ) → Collection → List ℕ → Type 0 where
   nothing : (r : Collection) (slots : List ℕ) → wellMade r ≡ false → HeldBy [] r slots
   these : (x : List ℕ) (xs : List (List ℕ)) (r : Collection) (slots : List ℕ) → wellMade r ≡ true → r .count ≡ countOf x → r .number ≡ numberOf x
       → ((k : ℕ) → k < 16 → SlotHas (lookup (x ∷ xs) k) r slots k) → HeldBy (x ∷ xs) r slots
+
+-- the body of what slot k has
+abbrev pub bodyIn : Collection → List ℕ → ℕ → List ℕ
+bodyIn r slots k = r .count ∷ r .number ∷ suc k ∷ pieceAt slots (r .lengths) k
+
+unfoldable pub bodiesTo : Collection → List ℕ → ℕ → List (List ℕ)
+bodiesTo r slots zero = []
+bodiesTo r slots (suc m) = cond (isFilled (getD (r .filled) m 0)) (bodyIn r slots m ∷ bodiesTo r slots m) (bodiesTo r slots m)
+
+unfoldable pub standsFor : Collection → List ℕ → List (List ℕ)
+standsFor r slots = cond (wellMade r) (bodiesTo r slots 16) []
+
+-- the arrays of a record have sixteen places each
+pub record Sized (r : Collection) : Type 0 where
+  pub flags : length (r .filled) ≡ 16
+  pub lens : length (r .lengths) ≡ 16

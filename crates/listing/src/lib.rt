@@ -8,7 +8,7 @@ mod text;
 
 ghost use mathlib.Core.Path.{_≡_};
 ghost use Rattle.listing.specs.Text.{tableText, refusalText, waitingText};
-ghost use Rattle.listing.specs.Listing.{listing};
+ghost use Rattle.listing.specs.Listing.{written, listing};
 use lines::put_channels;
 use lines::put_classifiers;
 use lines::put_refusal;
@@ -34,7 +34,7 @@ pub enum Listed {
 
 // The listing of a table and the change count that it came under.
 pub fn list_table(count: u8, table: Table, out: &mut [u8]) -> Listed
-    ensures { λ r. ⌜ record { answer = r; out = now (out .exit) } ≡ listing (tableText count table) (now (out .entry)) ⌝ }
+    ensures { λ r. ⌜ record { answer = written r; out = now (out .exit) } ≡ listing (tableText count table) (now (out .entry)) ⌝ }
 {
     if out.len() < LISTING_BYTES {
         return Listed::Refused(REFUSED_SHORT_LISTING);
@@ -50,7 +50,7 @@ pub fn list_table(count: u8, table: Table, out: &mut [u8]) -> Listed
 
 // The listing of a refusal: its number and offset.
 pub fn list_refusal(number: u8, offset: usize, out: &mut [u8]) -> Listed
-    ensures { λ r. ⌜ record { answer = r; out = now (out .exit) } ≡ listing (refusalText number offset) (now (out .entry)) ⌝ }
+    ensures { λ r. ⌜ record { answer = written r; out = now (out .exit) } ≡ listing (refusalText number offset) (now (out .entry)) ⌝ }
 {
     if out.len() < LISTING_BYTES {
         return Listed::Refused(REFUSED_SHORT_LISTING);
@@ -61,7 +61,7 @@ pub fn list_refusal(number: u8, offset: usize, out: &mut [u8]) -> Listed
 
 // The listing of a collection that waits for so many slots.
 pub fn list_waiting(slots: u8, out: &mut [u8]) -> Listed
-    ensures { λ r. ⌜ record { answer = r; out = now (out .exit) } ≡ listing (waitingText slots) (now (out .entry)) ⌝ }
+    ensures { λ r. ⌜ record { answer = written r; out = now (out .exit) } ≡ listing (waitingText slots) (now (out .entry)) ⌝ }
 {
     if out.len() < LISTING_BYTES {
         return Listed::Refused(REFUSED_SHORT_LISTING);

@@ -1,2 +1,16 @@
--- Laws      what proofs, here and above, may know of the definitions: of the step, of an event's number, of a record
+-- Laws        what proofs, here and above, may know of the step and of an event's number
 pub mod Laws
+-- LawsKept    what a well-kept record is, claim by claim
+pub mod LawsKept
+-- LawsRows    each row keeps it so
+pub mod LawsRows
+-- LawsEvents  each event and each step keeps it so
+pub mod LawsEvents
+-- LawsFrame   what a step leaves alone; the transmitter
+pub mod LawsFrame
+-- LawsSending refusals; the transmitter
+pub mod LawsSending
+-- Bench       the starred clock example
+pub mod Bench
+-- Controls    wrong programs, refuted
+pub mod Controls

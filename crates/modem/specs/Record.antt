@@ -39,7 +39,7 @@ abbrev pub isSpoilt : Modem → Bool
 isSpoilt m = eqb (m .tdsg1) 0 || eqb (m .tdsg2) 0 || isOver (receiveOf m) || isOver (retryOf m)
 
 -- what breaks a record: first the numbers that no record has, then the list of document 01 in its order.
--- A mark that is neither 0 nor 1 is never the one that is due.
+-- A mark that is neither 0 nor 1 is never the one that is due. (Of an Idle record nothing depends on this.)
 unfoldable pub isBroken : Modem → Bool
 isBroken m =
     ltb resting (m .state) || ltb 1 (m .permission)

@@ -56,7 +56,8 @@ answerNumber ClockBack = 18
 abbrev pub answerOf : ℕ → Answer
 answerOf n = cond (eqb n (answerNumber ClockBack)) ClockBack Done
 
--- in Idle everything but Start is ignored; a step of half the range is 18; else the clock and the timers move, then the event acts
+-- in Idle everything but Start is ignored; a step of half the range is 18; else the clock and the timers move, then the event
+-- acts. A Start, which neither test meets, takes of the record only the clock that was just set.
 unfoldable pub steppedModem : Modem → ℕ → Event → Stepped
 steppedModem m now ev =
     cond (not (isStart ev) && countsIdle m) (record { answer = Done; modem = m })

@@ -139,10 +139,10 @@ pub fn step_numbered(modem: Modem, clock: u32, kind: u8, a: u16, b: u16, c: u16,
     ensures { λ r. ⌜ r ≡ numberedStep modem clock kind a b c d ⌝ }
 {
     if (kind == 1) & (a < 2) {
-        let next = rows::start(clock, a == 1);
+        let fresh = rows::start(clock, a == 1);
         return Numbered {
             answer: 0,
-            modem: next,
+            modem: fresh,
         };
     }
     if record::counts_idle(modem) {
@@ -240,10 +240,10 @@ pub fn step_modem(modem: Modem, clock: u32, event: Event) -> Stepped
     let n = numbers_of(event);
     let s = step_numbered(modem, clock, n.kind, n.a, n.b, n.c, n.d);
     let answer = answer_from(s.answer);
-    let next = s.modem;
+    let after = s.modem;
     Stepped {
         answer,
-        modem: next,
+        modem: after,
     }
 }
 

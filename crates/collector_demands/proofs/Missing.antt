@@ -1,0 +1,59 @@
+-- Laws of a family of slots (specs/Runs.antt): how many are empty, and what they have together.
+--
+--   missing-same       families that agree miss as many          missing-less     one more full slot: one fewer missing
+--   missing-some       an empty slot is missing                  missing-none     none where all are full
+--   missing-all        no run misses all
+--   wholeTo            the first n pieces together               message-whole    what slots with these pieces have together
+-- Trusts: nothing.
+use Prim.Native.Nat.{ℕ, zero, suc, _+_, _<_, _≤_}
+use mathlib.Core.Path.{_≡_, refl}
+use mathlib.Core.Bool.{true}
+use mathlib.Core.List.{List, [], _++_}
+use mathlib.Core.Logic.{⊎-elim}
+use native.Mathlib.Omega.{arith}
+use native.Mathlib.Nat.{eq-or-lt-of-le, le-of-suc-le-suc}
+use Rattle.collector_demands.specs.Runs.{Slot, empty, full, isFull, bytesOf, lookup, missing, message}
+
+-- two families of slots that agree below n miss as many
+pub missing-same : (f g : ℕ → Slot) (n : ℕ) → ((j : ℕ) → j < n → f j ≡ g j) → missing f n ≡ missing g n
+unfolding missing
+missing-same f g zero h = refl
+missing-same f g (suc n) h = rw (h n (omega arith), missing-same f g n (λ j q. h j (omega arith))) refl
+
+-- one more full slot: one fewer missing
+pub missing-less : (f g : ℕ → Slot) (k : ℕ) → f k ≡ empty → isFull (g k) ≡ true → ((j : ℕ) → (j ≡ k → ⊥) → f j ≡ g j) → (n : ℕ) → k < n → suc (missing g n) ≡ missing f n
+unfolding missing
+missing-less f g k e z h zero l = absurd (omega arith)
+missing-less f g k e z h (suc n) l = ⊎-elim
+    (λ q. rw (← q, e, z, missing-same f g k (λ j r. h j (λ s. omega arith))) (omega arith))
+    (λ q. rw (h n (λ s. omega arith), ← missing-less f g k e z h n q) (omega arith))
+    (eq-or-lt-of-le (le-of-suc-le-suc l))
+
+-- an empty slot is missing
+pub missing-some : (s : ℕ → Slot) (k : ℕ) → s k ≡ empty → (n : ℕ) → k < n → 1 ≤ missing s n
+unfolding missing
+missing-some s k e zero l = absurd (omega arith)
+missing-some s k e (suc n) l = ⊎-elim
+    (λ q. rw (← q, e) (omega arith))
+    (λ q. omega (arith, missing-some s k e n q))
+    (eq-or-lt-of-le (le-of-suc-le-suc l))
+
+pub missing-none : (s : ℕ → Slot) (m : ℕ) → ((k : ℕ) → k < m → isFull (s k) ≡ true) → missing s m ≡ 0
+unfolding missing
+missing-none s zero f = refl
+missing-none s (suc m) f = rw (f m (omega arith), missing-none s m (λ k q. f k (omega arith))) (omega arith)
+
+pub missing-all : (m : ℕ) → missing (lookup []) m ≡ m
+unfolding missing lookup
+missing-all zero = refl
+missing-all (suc m) = omega (arith, missing-all m)
+
+-- the first n pieces together
+unfoldable pub wholeTo : (ℕ → List ℕ) → ℕ → List ℕ
+wholeTo p zero = []
+wholeTo p (suc n) = wholeTo p n ++ p n
+
+pub message-whole : (p : ℕ → List ℕ) (s : ℕ → Slot) (n : ℕ) → ((k : ℕ) → k < n → s k ≡ full (p k)) → message s n ≡ wholeTo p n
+unfolding message wholeTo
+message-whole p s zero h = refl
+message-whole p s (suc n) h = rw (h n (omega arith), message-whole p s n (λ k q. h k (omega arith))) refl

@@ -1,0 +1,49 @@
+-- Laws of configurationAt (specs/Configurations.antt).
+--
+--   channels-room    no more channels than there is room for
+-- Trusts: nothing.
+use Prim.Native.Nat.{ℕ, _+_, _≤_}
+use mathlib.Core.Path.{_≡_, refl}
+use mathlib.Core.Bool.{Bool, true, false, cond}
+use mathlib.Core.List.{List}
+use native.Mathlib.Omega.{arith}
+use borrow.Author.Tests.{ltb-true}
+use lib.ListN.{set}
+use lib.Dec.{eqb, ltb}
+use Rattle.wire.specs.Bytes.{numberAt}
+use Rattle.table.specs.declared.TimerValues.{TimerValues}
+use Rattle.contents.specs.Rows.{typeAt, rowInside}
+use Rattle.contents.specs.Configurations.{emptyConfiguration, withChannel, withTimers, withConfigurationChild, configurationAt}
+use Rattle.contents.specs.declared.Configuration.{Configuration}
+use Rattle.contents.proofs.Laws.{fold-keeps}
+
+withChannel-room : (v : ℕ) (q : Configuration) → q .channelcount ≤ 32 → withChannel v q .channelcount ≤ 32
+unfolding withChannel
+withChannel-room v q h = on (ltb (q .channelcount) 32) refl
+  where
+    on : (b : Bool) → ltb (q .channelcount) 32 ≡ b → cond b (record { channelcount = q .channelcount + 1; channels = set (q .channels) (q .channelcount) v; timers = q .timers }) q .channelcount ≤ 32
+    on true e = let l = ltb-true (q .channelcount) 32 e in omega arith
+    on false e = h
+
+withConfigurationChild-room : (msg : List ℕ) (at len : ℕ) (q : Configuration) → q .channelcount ≤ 32 → withConfigurationChild msg at len q .channelcount ≤ 32
+unfolding withConfigurationChild
+withConfigurationChild-room msg at len q h = on (eqb (typeAt msg at) 1) (eqb (typeAt msg at) 2) (eqb (typeAt msg at) 3) (eqb (typeAt msg at) 4) (eqb (typeAt msg at) 5)
+  where
+    v : ℕ
+    v = numberAt 2 msg (at + 2)
+
+    t : TimerValues
+    t = q .timers
+
+    on : (a b c d e : Bool)
+        → cond a (withChannel (numberAt 4 msg (at + 2)) q) (cond b (withTimers (record { tdsg1 = v; tdsg2 = t .tdsg2; tdsg3 = t .tdsg3; tdsg4 = t .tdsg4 }) q) (cond c (withTimers (record { tdsg1 = t .tdsg1; tdsg2 = v; tdsg3 = t .tdsg3; tdsg4 = t .tdsg4 }) q) (cond d (withTimers (record { tdsg1 = t .tdsg1; tdsg2 = t .tdsg2; tdsg3 = v; tdsg4 = t .tdsg4 }) q) (cond e (withTimers (record { tdsg1 = t .tdsg1; tdsg2 = t .tdsg2; tdsg3 = t .tdsg3; tdsg4 = v }) q) q)))) .channelcount ≤ 32
+    on true b c d e = withChannel-room (numberAt 4 msg (at + 2)) q h
+    on false true c d e = h
+    on false false true d e = h
+    on false false false true e = h
+    on false false false false true = h
+    on false false false false false = h
+
+pub channels-room : (msg : List ℕ) (at : ℕ) → configurationAt msg at .channelcount ≤ 32
+unfolding configurationAt
+channels-room msg at = fold-keeps (λ (q : Configuration). q .channelcount ≤ 32) (withConfigurationChild msg) (λ a len q h. withConfigurationChild-room msg a len q h) (rowInside msg at) emptyConfiguration (omega arith)

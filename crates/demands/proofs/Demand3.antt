@@ -1,0 +1,36 @@
+-- Demand3: one message in 1 to 16 pieces, in any order, with repeats and refused bodies between: completion is reported exactly once, at the
+-- arrival of the last piece missing, and what is read then is what the uncut message gives.
+--
+--   EndToEnd     the collector's part (crate collector_demands, specs/Demand.antt: silent, once, last), and what reading gives at completion
+--   demand-3     it holds from any lent record that holds nothing, or a collection under another count or number, with buffers long enough
+--   uncut-short  such a message has at most 23,952 bytes, so reading does not refuse it for its length
+--
+-- Whether the record and the buffers come back untouched between the calls is the host's part; here they are what the last call left.
+-- Trusts: nothing.
+use Prim.Native.Nat.{ℕ, _≤_, _<_}
+use mathlib.Core.Path.{_≡_, ap}
+use mathlib.Core.List.{List}
+use lib.ListN.{length}
+use Rattle.table.specs.declared.Table.{Table}
+use Rattle.reader.specs.Read.{readTable}
+use Rattle.collector_demands.specs.Runs.{Reply}
+use Rattle.collector_demands.specs.Demand as collected
+use Rattle.collector_demands.specs.Demand.{Lent, replyTo, Cutting, bodyOf, Arrived, Came, Apart}
+use Rattle.collector_demands.proofs.Kept.{length-cut}
+use Rattle.collector_demands.proofs.Demands as collected-proved
+
+pub record EndToEnd (s : Lent) (count : ℕ) (message : List ℕ) (pieces : List (List ℕ)) : Type 0 where
+  -- completion: never while a piece is missing, once when all came, at the last piece missing, with the message
+  pub completed : collected.Demand3 s count message pieces
+  -- the message that is lent at the arrival of the last piece missing is read as the uncut one, whatever table is given
+  pub read : {h : List (List ℕ)} (t : Arrived count pieces h) (k : ℕ) → k < length pieces → (Came k t → ⊥)
+      → ((j : ℕ) → j < length pieces → (j ≡ k → ⊥) → Came j t) → (given : Table) → readTable given (replyTo s h (bodyOf count pieces k) .lent) ≡ readTable given message
+
+pub demand-3 : (s : Lent) → 24000 ≤ length (s .slots) → 24000 ≤ length (s .join) → (count : ℕ) (message : List ℕ) (pieces : List (List ℕ)) → Cutting message pieces
+    → Apart (s .held) count (length pieces) → EndToEnd s count message pieces
+demand-3 s room space count message pieces cut apart =
+    let d = collected-proved.demand-3 s room space count message pieces cut apart in
+    record { completed = d; read = λ t k l missing others given. ap (λ (r : Reply). readTable given (r .lent)) (d .last t k l missing others) }
+
+pub uncut-short : (message : List ℕ) (pieces : List (List ℕ)) → Cutting message pieces → length message ≤ 23952
+uncut-short = length-cut

@@ -1,0 +1,18 @@
+-- Contract: what it means that a contract gives a definition, and that it admits one answer.
+-- Parts: the contracts of the lower crates.      Demand2: those of the entries that demand 2 names.
+-- Demand1: what a refusal leaves, and its numbers.
+-- Demand3: a cut message completes once and is read as the uncut one.
+-- OneAnswer: every contract admits one answer.
+-- Messages: the bench messages read, step by step.      Starred: the starred examples, one list under one theorem.
+-- Sentences: sentences of document 01 that follow from the definitions.
+-- Controls: wrong programs refuted.
+pub mod Contract
+pub mod Parts
+pub mod Demand1
+pub mod Demand2
+pub mod Demand3
+pub mod OneAnswer
+pub mod Messages
+pub mod Starred
+pub mod Sentences
+pub mod Controls

@@ -1,0 +1,118 @@
+-- Parts: what the public functions of the lower crates give (wire, table, elements, rows, contents, listing): each its definition, for every input.
+--
+-- It says nothing of what the definitions mean; docs/MAP.md says where they stand. `met` of each function, in its own crate, says that the
+-- compiled function meets the contract cited here.
+-- Trusts: nothing.
+use Prim.Native.Nat.{ℕ}
+use mathlib.Core.Path.{_≡_}
+use mathlib.Core.List.{List}
+use contract.Lifetimes.{Lfts}
+use denote.Ref.{now}
+use Rattle.demands.proofs.Contract.{Gives, answer}
+use Rattle.wire.specs.Bytes.{numberAt, pasted, sameBytes}
+use Rattle.wire.proofs.number2.Reads as number2
+use Rattle.wire.proofs.number4.Reads as number4
+use Rattle.wire.proofs.number6.Reads as number6
+use Rattle.wire.proofs.copy_at.Reads as copy_at
+use Rattle.wire.proofs.same_bytes.Reads as same_bytes
+use Rattle.table.specs.Table.{limitedTo, emptyClient, emptyRule, emptyClassifier, emptyTable}
+use Rattle.table.proofs.limited.Reads as limited
+use Rattle.table.proofs.empty_client.Reads as empty_client
+use Rattle.table.proofs.empty_rule.Reads as empty_rule
+use Rattle.table.proofs.empty_classifier.Reads as empty_classifier
+use Rattle.table.proofs.empty_table.Reads as empty_table
+use Rattle.elements.specs.Elements.{headAt}
+use Rattle.elements.proofs.read_head.Reads as read_head
+use Rattle.elements.specs.Places.{typeUnder, lacksMust}
+use Rattle.elements.proofs.types.find_type.Reads as find_type
+use Rattle.elements.proofs.types.lacks_must.Reads as lacks_must
+use Rattle.rows.specs.Tests.{emptyTally}
+use Rattle.rows.specs.Rows.{testedAt}
+use Rattle.rows.proofs.empty_tally.Reads as empty_tally
+use Rattle.rows.proofs.test_element.Reads as test_element
+use Rattle.contents.specs.Rules.{ruleAt}
+use Rattle.contents.specs.Classifiers.{classifierAt}
+use Rattle.contents.specs.Configurations.{configurationAt}
+use Rattle.contents.proofs.rule_at.Reads as rule_at
+use Rattle.contents.proofs.classifier_at.Reads as classifier_at
+use Rattle.contents.proofs.configuration_at.Reads as configuration_at
+use Rattle.listing.specs.Text.{tableText, refusalText, waitingText}
+use Rattle.listing.specs.Listing.{Listing, written, listing}
+use Rattle.listing.proofs.list_table.Reads as list_table
+use Rattle.listing.proofs.list_refusal.Reads as list_refusal
+use Rattle.listing.proofs.list_waiting.Reads as list_waiting
+
+-- ---- wire
+
+pub number2-gives : (κs : Lfts 1) → Gives answer (number2.Post κs) (λ a. numberAt 2 (now (a .0)) (a .1 .0))
+number2-gives κs a x s h = h
+
+pub number4-gives : (κs : Lfts 1) → Gives answer (number4.Post κs) (λ a. numberAt 4 (now (a .0)) (a .1 .0))
+number4-gives κs a x s h = h
+
+pub number6-gives : (κs : Lfts 1) → Gives answer (number6.Post κs) (λ a. numberAt 6 (now (a .0)) (a .1 .0))
+number6-gives κs a x s h = h
+
+pub copy_at-gives : (κs : Lfts 2) → Gives (λ x s. now (s .0)) (copy_at.Post κs) (λ a. pasted (now (a .0)) (a .1 .0) (now (a .1 .1 .0)))
+copy_at-gives κs a x s h = h
+
+pub same_bytes-gives : (κs : Lfts 2) → Gives answer (same_bytes.Post κs) (λ a. sameBytes (now (a .0)) (now (a .1 .0)))
+same_bytes-gives κs a x s h = h
+
+-- ---- table
+
+pub limited-gives : (κs : Lfts 0) → Gives answer (limited.Post κs) (λ a. limitedTo (a .1 .0) (a .0))
+limited-gives κs a x s h = h
+
+pub empty_client-gives : (κs : Lfts 0) → Gives answer (empty_client.Post κs) (λ a. emptyClient)
+empty_client-gives κs a x s h = h
+
+pub empty_rule-gives : (κs : Lfts 0) → Gives answer (empty_rule.Post κs) (λ a. emptyRule)
+empty_rule-gives κs a x s h = h
+
+pub empty_classifier-gives : (κs : Lfts 0) → Gives answer (empty_classifier.Post κs) (λ a. emptyClassifier)
+empty_classifier-gives κs a x s h = h
+
+pub empty_table-gives : (κs : Lfts 0) → Gives answer (empty_table.Post κs) (λ a. emptyTable)
+empty_table-gives κs a x s h = h
+
+-- ---- elements
+
+pub read_head-gives : (κs : Lfts 1) → Gives answer (read_head.Post κs) (λ a. headAt (now (a .0)) (a .1 .0) (a .1 .1 .0))
+read_head-gives κs a x s h = h
+
+pub find_type-gives : (κs : Lfts 0) → Gives answer (find_type.Post κs) (λ a. typeUnder (a .0) (a .1 .0))
+find_type-gives κs a x s h = h
+
+pub lacks_must-gives : (κs : Lfts 0) → Gives answer (lacks_must.Post κs) (λ a. lacksMust (a .0) (a .1 .0))
+lacks_must-gives κs a x s h = h
+
+-- ---- rows
+
+pub empty_tally-gives : (κs : Lfts 0) → Gives answer (empty_tally.Post κs) (λ a. emptyTally)
+empty_tally-gives κs a x s h = h
+
+pub test_element-gives : (κs : Lfts 1) → Gives answer (test_element.Post κs) (λ a. testedAt (now (a .0)) (a .1 .0) (a .1 .1 .0))
+test_element-gives κs a x s h = h
+
+-- ---- contents
+
+pub rule_at-gives : (κs : Lfts 1) → Gives answer (rule_at.Post κs) (λ a. ruleAt (now (a .0)) (a .1 .0))
+rule_at-gives κs a x s h = h
+
+pub classifier_at-gives : (κs : Lfts 1) → Gives answer (classifier_at.Post κs) (λ a. classifierAt (now (a .0)) (a .1 .0))
+classifier_at-gives κs a x s h = h
+
+pub configuration_at-gives : (κs : Lfts 1) → Gives answer (configuration_at.Post κs) (λ a. configurationAt (now (a .0)) (a .1 .0))
+configuration_at-gives κs a x s h = h
+
+-- ---- listing: the answer and the lent buffer
+
+pub list_table-gives : (κs : Lfts 1) → Gives {L = Listing} (λ x s. record { answer = written x; out = now (s .1 .1 .0) }) (list_table.Post κs) (λ a. listing (tableText (a .0) (a .1 .0)) (now (a .1 .1 .0)))
+list_table-gives κs a x s h = h
+
+pub list_refusal-gives : (κs : Lfts 1) → Gives {L = Listing} (λ x s. record { answer = written x; out = now (s .1 .1 .0) }) (list_refusal.Post κs) (λ a. listing (refusalText (a .0) (a .1 .0)) (now (a .1 .1 .0)))
+list_refusal-gives κs a x s h = h
+
+pub list_waiting-gives : (κs : Lfts 1) → Gives {L = Listing} (λ x s. record { answer = written x; out = now (s .1 .0) }) (list_waiting.Post κs) (λ a. listing (waitingText (a .0)) (now (a .1 .0)))
+list_waiting-gives κs a x s h = h

@@ -1,0 +1,117 @@
+-- Starred: the starred examples of document 01, "Bench examples": one list, in its order, under one theorem about the definitions.
+--
+--   examples given   what the definitions give, each example asked as the document asks it; `given` is the table that the host has
+--   expected         what the document says
+--   starred          they are the same, whatever table is given
+--
+-- The two bodies of the second example are answered by the runs of crate collector_demands, whose `cut-collected` says the same of the
+-- collector and any lent buffers. That the code does what the definitions give is in Demand2.
+-- Trusts: nothing.
+use Prim.Native.Nat.{ℕ}
+use mathlib.Core.Path.{_≡_, refl}
+use mathlib.Core.List.{List, [], _∷_}
+use Rattle.table.specs.declared.Table.{Table}
+use Rattle.table.specs.Table.{rulesOf, clientsOf, emptyTable}
+use Rattle.reader.specs.Read.{readTable}
+use Rattle.reader.specs.declared.Reading.{Reading}
+use Rattle.reader.specs.declared.Verdict.{Verdict}
+use Rattle.reader.specs.declared.Verdict.the-variants as verdict
+use Rattle.choice.specs.declared.Ucid.the-variants.{Unknown}
+use Rattle.choice.specs.declared.Choice.{Choice}
+use Rattle.choice.specs.declared.Choice.the-variants as choice
+use Rattle.choice.specs.Best.{comesBefore, anyOf, firstPlace, isBest, bestPlace}
+use Rattle.choice.specs.Choose.{isClient, listsClient, admitsUcid, fitsClient, chosenPlace, choiceOf, ruleAt}
+use Rattle.collector.specs.Answers.{Said, waiting, complete}
+use Rattle.collector_demands.specs.Runs.{replyOf}
+use Rattle.collector_demands.proofs.Bench.{M, firstBody, secondBody, cut-example}
+use Rattle.modem.specs.Step.{clockStep}
+use Rattle.demands.proofs.Messages.{application, tableOfM, tdsg3-0, read-M, read-empty, read-32, read-32-FF, read-32-00, read-twice, read-tdsg1, read-tdsg3, read-63}
+
+-- what an example comes to
+pub data Outcome : Type 0 where
+  -- a client gets the rule of this number; or refusal 17
+  getsRule : ℕ → Outcome
+  getsNone : Outcome
+  -- a body is answered
+  told : Said → Outcome
+  -- a message is a table, or is refused with this number at this offset
+  accepted : Table → Outcome
+  refusedAt : ℕ → ℕ → Outcome
+  -- the step between two clocks
+  step : ℕ → Outcome
+
+abbrev pub chosen : Table → Choice → Outcome
+chosen t (choice.Chosen place) = getsRule (ruleAt t place .number)
+chosen t (choice.Refused n) = getsNone
+
+abbrev pub outcome : Verdict → Table → Outcome
+outcome verdict.Accepted t = accepted t
+outcome (verdict.Refused n at) t = refusedAt n at
+
+abbrev pub read : Table → List ℕ → Outcome
+read given msg = outcome (readTable given msg .verdict) (readTable given msg .table)
+
+abbrev pub examples : Table → List Outcome
+examples given =
+    chosen (readTable given M .table) (choiceOf (readTable given M .table) application Unknown)
+    ∷ told (replyOf [] secondBody .answer)
+    ∷ told (replyOf (secondBody ∷ []) firstBody .answer)
+    ∷ read given []
+    ∷ read given (0x32 ∷ [])
+    ∷ read given (0x32 ∷ 0xFF ∷ [])
+    ∷ read given (0x32 ∷ 0 ∷ [])
+    ∷ read given (0x33 ∷ 0 ∷ 0x33 ∷ 0 ∷ [])
+    ∷ read given (0x33 ∷ 4 ∷ 2 ∷ 2 ∷ 0 ∷ 0 ∷ [])
+    ∷ read given (0x33 ∷ 4 ∷ 4 ∷ 2 ∷ 0 ∷ 0 ∷ [])
+    ∷ read given (0x63 ∷ 1 ∷ 0 ∷ [])
+    ∷ step (clockStep 0x00000100 0xFFFFFF00)
+    ∷ []
+
+abbrev pub expected : List Outcome
+expected =
+    -- M: application 42 gets rule 5
+    getsRule 5
+    -- M cut after 10 bytes, second piece first: Waiting 1, Complete
+    ∷ told (waiting 1)
+    ∷ told (complete 52)
+    -- the empty message: accepted
+    ∷ accepted emptyTable
+    -- 32
+    ∷ refusedAt 6 0
+    -- 32 FF
+    ∷ refusedAt 7 0
+    -- 32 00
+    ∷ refusedAt 13 0
+    -- 33 00 33 00
+    ∷ refusedAt 9 2
+    -- 33 04 02 02 00 00
+    ∷ refusedAt 11 2
+    -- 33 04 04 02 00 00: accepted, Tdsg3 0
+    ∷ accepted tdsg3-0
+    -- 63 01 00: accepted, empty
+    ∷ accepted emptyTable
+    -- clock FFFFFF00, then 00000100
+    ∷ step 512
+    ∷ []
+
+gets-M : choiceOf tableOfM application Unknown ≡ choice.Chosen 0
+unfolding rulesOf clientsOf comesBefore anyOf firstPlace isBest bestPlace isClient listsClient admitsUcid fitsClient chosenPlace choiceOf
+gets-M = refl
+
+pub starred : (given : Table) → examples given ≡ expected
+unfolding rulesOf
+starred given =
+    rw (
+      read-M given,
+      gets-M,
+      cut-example .0,
+      cut-example .1,
+      read-empty given,
+      read-32 given,
+      read-32-FF given,
+      read-32-00 given,
+      read-twice given,
+      read-tdsg1 given,
+      read-tdsg3 given,
+      read-63 given,
+    ) refl

@@ -1,0 +1,38 @@
+-- Told: the part that a host finds by the start and the length of an answer is the part that is lent back in Rattle.
+--
+--   payload-told   the payload of a verdict on a frame of 14 bytes or more (a shorter one is refused)
+--   body-told, join-told   the message that a body completes: from the body, whose piece is all of it, and from the join buffer
+-- Trusts: nothing.
+use Prim.Native.Nat.{ℕ, _-_, _≤_}
+use native.Mathlib.Nat.{le-refl}
+use mathlib.Core.Path.{_≡_, sym}
+use mathlib.Core.Bool.{false}
+use mathlib.Core.List.{List}
+use lib.ListN.{length, take, drop, drop-of-length-le}
+use lib.Dec.{eqb}
+use borrow.Author.Tests.{le-ltb}
+use Rattle.wire.proofs.Laws.{rest-all}
+use Rattle.collector.specs.Answers.{complete, lentOf}
+use Rattle.tunnel.specs.declared.Verdict.{Verdict}
+use Rattle.tunnel.specs.declared.Verdict.the-variants.{Refused, Other, Forward, Filtered}
+use Rattle.tunnel.specs.Judge.{payloadStart, payloadOf}
+use Rattle.dsg.specs.Bodies.{collectedOf}
+use Rattle.dsg.specs.Frames.{verdictAs}
+
+pub payload-told : (v : Verdict) (frame : List ℕ) → 14 ≤ length frame
+    → take (verdictAs v (length frame) .length) (drop (verdictAs v (length frame) .start) frame) ≡ payloadOf v frame
+unfolding payloadOf payloadStart
+payload-told (Refused k) frame h = sym (drop-of-length-le frame (le-refl (length frame)))
+payload-told Other frame h = sym (drop-of-length-le frame (le-refl (length frame)))
+payload-told (Forward k) frame h = rw (le-ltb (length frame) 14 h) (rest-all frame 14)
+payload-told Filtered frame h = sym (drop-of-length-le frame (le-refl (length frame)))
+
+pub body-told : (body join : List ℕ)
+    → take (collectedOf (complete (length body - 3)) 1 .length) (drop (collectedOf (complete (length body - 3)) 1 .start) body) ≡ lentOf (complete (length body - 3)) 1 body join
+unfolding lentOf
+body-told body join = rest-all body 3
+
+pub join-told : (n number : ℕ) (body join : List ℕ) → eqb number 1 ≡ false
+    → take (collectedOf (complete n) number .length) (drop (collectedOf (complete n) number .start) join) ≡ lentOf (complete n) number body join
+unfolding lentOf
+join-told n number body join e = rw e

@@ -1,0 +1,4 @@
+pub mod Bodies
+pub mod Events
+pub mod Frames
+pub mod Tables

@@ -1,0 +1,68 @@
+// What a host does with the modem record: tell it an event, ask whether it transmits and forwards.
+//
+// `dsg_empty_modem`, `dsg_event`, `dsg_transmits` and `dsg_forwards`. An event is a number and four
+// arguments; one that names none only moves the clock.
+ghost use mathlib.Core.Path.{_≡_};
+ghost use Rattle.modem.specs.Record.{transmits, forwards, emptyModem};
+ghost use Rattle.dsg.specs.Events.{eventStepped};
+use modem::Modem;
+
+// The number that an event is answered, 0 or the refusal, and the record after it.
+struct EventStepped {
+    number: u32,
+    modem: Modem,
+}
+
+// One event for a record by value.
+fn event_value(modem: Modem, clock: u32, event: u8, a: u16, b: u16, c: u16, d: u16) -> EventStepped
+    ensures { λ r. ⌜ r ≡ eventStepped modem clock event a b c d ⌝ }
+{
+    let stepped = modem::step_numbered(modem, clock, event, a, b, c, d);
+    let next = stepped.modem;
+    EventStepped {
+        number: stepped.answer as u32,
+        modem: next,
+    }
+}
+
+// One event for a record that the host lends.
+#[no_mangle]
+pub extern "C" fn dsg_event(
+    modem: &mut Modem,
+    clock: u32,
+    event: u8,
+    a: u16,
+    b: u16,
+    c: u16,
+    d: u16,
+) -> u32
+    ensures { λ r. ⌜ record { number = r; modem = now (modem .exit) } ≡ eventStepped (now (modem .entry)) clock event a b c d ⌝ }
+{
+    let s = event_value(*modem, clock, event, a, b, c, d);
+    *modem = s.modem;
+    s.number
+}
+
+// Whether the transmitter is on.
+#[no_mangle]
+pub extern "C" fn dsg_transmits(modem: &Modem) -> bool
+    ensures { λ r. ⌜ r ≡ transmits (now (modem .entry)) ⌝ }
+{
+    modem::transmits(*modem)
+}
+
+// Whether tunnels are forwarded.
+#[no_mangle]
+pub extern "C" fn dsg_forwards(modem: &Modem) -> bool
+    ensures { λ r. ⌜ r ≡ forwards (now (modem .entry)) ⌝ }
+{
+    modem::forwards(*modem)
+}
+
+// An idle record.
+#[no_mangle]
+pub extern "C" fn dsg_empty_modem() -> Modem
+    ensures { λ r. ⌜ r ≡ emptyModem ⌝ }
+{
+    modem::empty_modem()
+}

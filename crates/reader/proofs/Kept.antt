@@ -1,0 +1,117 @@
+-- What the top-level loop keeps besides the reading itself: the numbers of the rules and of the classifiers so far, and the room of the table.
+--
+--   Kept ruleids classifierids t   the first of each list are the numbers in t; every list has its length
+--   kept-empty, kept-rule, kept-classifier, kept-configuration   it holds at the start and after each element
+--   pushed-rule, pushed-classifier   what a store at the next place is
+-- Trusts: nothing.
+use Prim.Native.Nat.{ℕ, zero, suc, _+_, _≤_, _<_}
+use mathlib.Core.Path.{_≡_, refl, sym, ap, _∙_}
+use mathlib.Core.Bool.{cond}
+use mathlib.Core.List.{List, map}
+use native.Mathlib.Omega.{arith}
+use borrow.Author.Tests.{lt-ltb, le-ltb}
+use lib.ListN.{length, take, getD, set, replicate, length-set}
+use Rattle.table.specs.Table.{limitedTo, rulesOf, classifiersOf, emptyRule, emptyTable}
+use Rattle.table.specs.declared.Rule.{Rule}
+use Rattle.table.specs.declared.Classifier.{Classifier}
+use Rattle.table.specs.declared.Table.{Table}
+use Rattle.contents.specs.declared.Configuration.{Configuration}
+use Rattle.reader.specs.Take.{withRule, withClassifier, withConfiguration, ruleNumbers, classifierNumbers, RulesSized}
+use Rattle.reader.proofs.Lists.{front-more, getD-set}
+
+pub record Kept (ruleids classifierids : List ℕ) (t : Table) : Type 0 where
+  pub rules : t .rulecount ≤ 32
+  pub classifiers : t .classifiercount ≤ 32
+  pub ruleroom : length (t .rules) ≡ 32
+  pub classifierroom : length (t .classifiers) ≡ 32
+  pub ruleidroom : length ruleids ≡ 32
+  pub classifieridroom : length classifierids ≡ 32
+  pub sized : RulesSized t
+  pub ruled : take (t .rulecount) ruleids ≡ ruleNumbers t
+  pub classified : take (t .classifiercount) classifierids ≡ classifierNumbers t
+
+pub limited-same : (limit n : ℕ) → n ≤ limit → limitedTo limit n ≡ n
+limited-same limit n h = simp (le-ltb limit n h)
+
+-- the rule as it goes to the next place, and the classifier
+abbrev pub pushedRule : Rule → Table → Table
+pushedRule q t =
+    record { rulecount = t .rulecount + 1; classifiercount = t .classifiercount; channelcount = t .channelcount; timers = t .timers; channels = t .channels; classifiers = t .classifiers; rules = set (t .rules) (t .rulecount) q }
+
+abbrev pub pushedClassifier : Classifier → Table → Table
+pushedClassifier q t =
+    record { rulecount = t .rulecount; classifiercount = t .classifiercount + 1; channelcount = t .channelcount; timers = t .timers; channels = t .channels; classifiers = set (t .classifiers) (t .classifiercount) q; rules = t .rules }
+
+module _ (q : Rule) (t : Table) where
+  pub withRule-pushed : t .rulecount < 32 → pushedRule q t ≡ withRule q t
+  unfolding withRule
+  withRule-pushed h = simp (lt-ltb (t .rulecount) 32 h)
+
+  pub withRule-full : 32 ≤ t .rulecount → t ≡ withRule q t
+  unfolding withRule
+  withRule-full h = simp (le-ltb (t .rulecount) 32 h)
+
+module _ (q : Classifier) (t : Table) where
+  pub withClassifier-pushed : t .classifiercount < 32 → pushedClassifier q t ≡ withClassifier q t
+  unfolding withClassifier
+  withClassifier-pushed h = simp (lt-ltb (t .classifiercount) 32 h)
+
+  pub withClassifier-full : 32 ≤ t .classifiercount → t ≡ withClassifier q t
+  unfolding withClassifier
+  withClassifier-full h = simp (le-ltb (t .classifiercount) 32 h)
+
+pub kept-empty : Kept (replicate 32 0) (replicate 32 0) emptyTable
+unfolding rulesOf classifiersOf RulesSized
+kept-empty =
+    record { rules = omega arith; classifiers = omega arith; ruleroom = refl; classifierroom = refl; ruleidroom = refl; classifieridroom = refl; sized = λ i. all i; ruled = refl; classified = refl }
+  where
+    -- every place of the empty table, and what lies past it
+    within : (n i : ℕ) → length (getD (replicate n emptyRule) i emptyRule .numbers) ≡ 8
+    within zero i = refl
+    within (suc n) zero = refl
+    within (suc n) (suc i) = within n i
+
+    all : (i : ℕ) → length (getD (replicate 32 emptyRule) i emptyRule .numbers) ≡ 8
+    all i = within 32 i
+
+module _ {a b : List ℕ} {t : Table} (k : Kept a b t) where
+  pub kept-rule : (q : Rule) → t .rulecount < 32 → length (q .numbers) ≡ 8 → Kept (set a (t .rulecount) (q .number)) b (pushedRule q t)
+  unfolding rulesOf classifiersOf RulesSized
+  kept-rule q h s =
+      record {
+        rules = omega arith;
+        classifiers = k .classifiers;
+        ruleroom = simp length-set (k .ruleroom);
+        classifierroom = k .classifierroom;
+        ruleidroom = simp length-set (k .ruleidroom);
+        classifieridroom = k .classifieridroom;
+        sized = λ i. getD-set (λ (x : Rule). length (x .numbers) ≡ 8) (t .rules) (t .rulecount) i q emptyRule s (k .sized i);
+        ruled =
+            front-more (λ (x : Rule). x .number) (t .rules) a (t .rulecount) q (omega arith) (omega arith)
+            (k .ruled ∙ simp (limited-same 32 (t .rulecount) (k .rules)))
+            ∙ simp (limited-same 32 (t .rulecount + 1) (omega arith));
+        classified = k .classified;
+      }
+
+  pub kept-classifier : (q : Classifier) → t .classifiercount < 32 → Kept a (set b (t .classifiercount) (q .number)) (pushedClassifier q t)
+  unfolding rulesOf classifiersOf RulesSized
+  kept-classifier q h =
+      record {
+        rules = k .rules;
+        classifiers = omega arith;
+        ruleroom = k .ruleroom;
+        classifierroom = simp length-set (k .classifierroom);
+        ruleidroom = k .ruleidroom;
+        classifieridroom = simp length-set (k .classifieridroom);
+        sized = k .sized;
+        ruled = k .ruled;
+        classified =
+            front-more (λ (x : Classifier). x .number) (t .classifiers) b (t .classifiercount) q (omega arith) (omega arith)
+            (k .classified ∙ simp (limited-same 32 (t .classifiercount) (k .classifiers)))
+            ∙ simp (limited-same 32 (t .classifiercount + 1) (omega arith));
+      }
+
+  pub kept-configuration : (q : Configuration) → Kept a b (withConfiguration q t)
+  unfolding rulesOf classifiersOf RulesSized
+  kept-configuration q =
+      record { rules = k .rules; classifiers = k .classifiers; ruleroom = k .ruleroom; classifierroom = k .classifierroom; ruleidroom = k .ruleidroom; classifieridroom = k .classifieridroom; sized = k .sized; ruled = k .ruled; classified = k .classified }

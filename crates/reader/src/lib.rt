@@ -1,0 +1,212 @@
+// Reads a message into a table, or refuses it.
+//
+// One public function, `read_table`, which takes any message and any table: a bad message is an answer
+// (3, 6 to 15, with its offset), and then the table comes back as it was given. Nothing of the given
+// table enters an accepted one.
+use elements::Head;
+use table::Table;
+ghost use mathlib.Core.Path.{_≡_};
+ghost use Prim.Native.Nat.{_≤_};
+ghost use lib.ListN.{length, getD, take};
+ghost use Rattle.contents.specs.Rows.{rowIn, placesOf};
+ghost use Rattle.table.specs.Table.{limitedTo};
+ghost use Rattle.reader.specs.Take.{isListed, unanswered, namedPlace, classifierNumbers, RulesSized};
+ghost use Rattle.reader.specs.Read.{refusal, readTable};
+
+// The longest message.
+const MESSAGE_BYTES: usize = 23952;
+
+// What became of a message.
+pub enum Verdict {
+    // It is a table.
+    Accepted,
+    // It is refused: the number, and the offset of the type byte concerned (0 for number 3).
+    Refused(u8, usize),
+}
+
+// The verdict, and the table: the message's if it is accepted, else the one given.
+pub struct Reading {
+    pub verdict: Verdict,
+    pub table: Table,
+}
+
+// Whether every classifier number that the rules name is carried by a classifier.
+pub enum Lone {
+    // Every one is.
+    Answered,
+    // Rule i's number j is the first that is not.
+    Number(usize, usize),
+}
+
+// A refusal, with the table as it was given.
+fn refuse(number: u8, offset: usize, given: Table) -> Reading
+    ensures { λ r. ⌜ r ≡ refusal number offset given ⌝ }
+{
+    let verdict = Verdict::Refused(number, offset);
+    Reading {
+        verdict,
+        table: given,
+    }
+}
+
+// Whether the number is among the first `count` of the list. It looks at every one, so that the loop has one way out.
+fn is_listed(list: &[u16; 32], count: usize, number: u16) -> bool
+    requires { ⌜ (count ≤ 32) × (length (now list) ≡ 32) ⌝ }
+    ensures { λ r. ⌜ r ≡ isListed number (take count (now (list .entry))) ⌝ }
+{
+    let mut listed = false;
+    let mut i = 0;
+    while i < count {
+        if list[i] == number {
+            listed = true;
+        }
+        i += 1;
+    }
+    listed
+}
+
+// Where the n-th element of this type (counted from 0) stands in the row `from` to `end`; 0 if there are fewer.
+fn nth_place(message: &[u8], from: usize, end: usize, kind: u8, n: usize) -> usize
+    ensures { λ r. ⌜ r ≡ getD (placesOf (now (message .entry)) kind (rowIn (now (message .entry)) from end)) n 0 ⌝ }
+{
+    let mut left = n;
+    let mut at = from;
+    loop {
+        let Head::Value(len) = elements::read_head(message, at, end) else {
+            return 0;
+        };
+        let here = at;
+        at = here + 2 + len;
+        if message[here] != kind {
+            continue;
+        }
+        if left == 0 {
+            return here;
+        }
+        left -= 1;
+    }
+}
+
+// Where the j-th 50.6 of the i-th rule stands.
+fn named_place(message: &[u8], i: usize, j: usize) -> usize
+    ensures { λ r. ⌜ r ≡ namedPlace (now (message .entry)) i j ⌝ }
+{
+    let rule = nth_place(message, 0, message.len(), 50, i);
+    let Head::Value(len) = elements::read_head(message, rule, message.len()) else {
+        return 0;
+    };
+    nth_place(message, rule + 2, rule + 2 + len, 6, j)
+}
+
+// How many classifier numbers a rule with this count names.
+fn named_count(count: u8) -> usize
+    ensures { λ r. ⌜ (r ≡ limitedTo 8 count) × (r ≤ 8) ⌝ }
+{
+    table::limited(count, 8)
+}
+
+// Test 15: the first number that a rule names and none of the first `count` classifier numbers is.
+fn first_unanswered(table: Table, carried: &[u16; 32], count: usize) -> Lone
+    requires { ⌜ (count ≤ 32) × (length (now carried) ≡ 32) × RulesSized table × (take count (now carried) ≡ classifierNumbers table) ⌝ }
+    ensures { λ r. ⌜ r ≡ unanswered table ⌝ }
+{
+    let mut lone = Lone::Answered;
+    let rules = table::limited(table.rulecount, 32);
+    let mut i = 0;
+    'search: while i < rules {
+        let rule = table.rules[i];
+        let numbers = named_count(rule.numbercount);
+        let mut j = 0;
+        while j < numbers {
+            let number = rule.numbers[j];
+            let mut answered = false;
+            let mut k = 0;
+            while k < count {
+                if carried[k] == number {
+                    answered = true;
+                }
+                k += 1;
+            }
+            if !answered {
+                lone = Lone::Number(i, j);
+                break 'search;
+            }
+            j += 1;
+        }
+        i += 1;
+    }
+    lone
+}
+
+// Reads the message: 3, then the top-level elements in byte order, each tested and taken up, last 15.
+pub fn read_table(given: Table, message: &[u8]) -> Reading
+    ensures { λ r. ⌜ r ≡ readTable given (now (message .entry)) ⌝ }
+{
+    if MESSAGE_BYTES < message.len() {
+        return refuse(3, 0, given);
+    }
+    let mut table = table::empty_table();
+    let mut ruleids = [0u16; 32];
+    let mut classifierids = [0u16; 32];
+    let mut tally = rows::empty_tally();
+    let mut at = 0;
+    while at < message.len() {
+        let tested = rows::test_element(message, at, tally);
+        if tested.bad != 0 {
+            return refuse(tested.bad, tested.off, given);
+        }
+        let here = at;
+        at = tested.next;
+        let after = tested.tally;
+        tally = after;
+        let kind = message[here];
+        match kind {
+            50 => {
+                let rule = contents::rule_at(message, here);
+                let n = table.rulecount as usize;
+                let number = rule.number as u16;
+                if is_listed(&ruleids, n, number) {
+                    return refuse(14, here, given);
+                }
+                if n < 32 {
+                    ruleids[n] = number;
+                    table.rules[n] = rule;
+                    table.rulecount = table.rulecount + 1;
+                }
+            }
+            23 => {
+                let classifier = contents::classifier_at(message, here);
+                let n = table.classifiercount as usize;
+                let number = classifier.number;
+                if is_listed(&classifierids, n, number) {
+                    return refuse(14, here, given);
+                }
+                if n < 32 {
+                    classifierids[n] = number;
+                    table.classifiers[n] = classifier;
+                    table.classifiercount = table.classifiercount + 1;
+                }
+            }
+            51 => {
+                let configuration = contents::configuration_at(message, here);
+                let channels = configuration.channels;
+                let timers = configuration.timers;
+                table.channels = channels;
+                table.timers = timers;
+                table.channelcount = configuration.channelcount;
+            }
+            _ => {}
+        }
+    }
+    let count = table.classifiercount as usize;
+    match first_unanswered(table, &classifierids, count) {
+        Lone::Answered => {
+            let verdict = Verdict::Accepted;
+            Reading { verdict, table }
+        }
+        Lone::Number(i, j) => {
+            let place = named_place(message, i, j);
+            refuse(15, place, given)
+        }
+    }
+}
