@@ -4,7 +4,7 @@
  * The functions are proved: each does, for every input, what its definition says. A definition is named with each
  * function below and stands in crates/NAME/specs; dsg's own, in crates/dsg/specs, say how answers become numbers.
  * No function allocates, keeps a pointer, has state of its own, reads a clock or calls back. So they may run in
- * interrupts and in several threads at once, as long as no two calls are lent the same record or buffer.
+ * several threads at once, as long as no two calls are lent the same record or buffer.
  *
  * What only the caller can promise:
  *   - a pointer to a record points to one, and is not null; a pointer to bytes points to as many as its length says, or
@@ -15,10 +15,14 @@
  * as the limit (table, tunnel), and a number that names no event moves only the clock.
  *
  * A refusal is a number, DSG_REFUSED_..: document 01's, and one of our own above them. After a refusal every record
- * and every buffer that was lent holds what it held before.
+ * and every buffer that was lent holds what it held before (where dsg_receive takes a body whose message is then
+ * refused, the pieces stay collected and the table is as before).
  *
- * Memory that a board needs: the records below and two buffers of DSG_BUFFER_BYTES, some 55,000 bytes. Stack: what
- * examples/measure-stack.c measures; docs/ has the figures.
+ * Memory that a board needs: the records below and two buffers of DSG_BUFFER_BYTES, some 55,000 bytes. Stack, as
+ * examples/stack.c measures it: dsg_receive 93,000 bytes, dsg_read 66,000, dsg_list_body 141,000, dsg_empty_table 29,000,
+ * dsg_list_table 21,000, dsg_judge 14,000, dsg_prepare 10,000, dsg_choose 7,000; what runs for each frame and event
+ * (dsg_judge_prepared, dsg_event, dsg_transmits, dsg_forwards) and dsg_collect under 1,000. Of the C library only
+ * memcpy, memset and the like are called.
  */
 #ifndef DSG_H
 #define DSG_H
@@ -230,7 +234,7 @@ struct dsg_read_answer {
 /* Reads a whole message.
  * Lent: the table, the message. Written: the table, where the message is accepted; nothing of what it held is kept.
  * Refused (number not 0): nothing is written.
- * Definition: reader/specs; dsg/specs/Bodies readAnswer. */
+ * Definition: reader/specs/Read readTable; dsg/specs/Tables readAnswer. */
 struct dsg_read_answer dsg_read(struct dsg_table *table, const uint8_t *message, size_t length);
 
 enum dsg_received_kind {
@@ -251,7 +255,7 @@ struct dsg_received {
 /* Takes one body and, where it completes a message, reads that: dsg_collect and then dsg_read.
  * Lent, written: as by these two. A refused body writes nothing; a refused message leaves the table as it was, and the
  *   collection and the buffers with the pieces of that message, so that a repeat is a repeat.
- * Definition: receiver/specs; dsg/specs/Bodies receiveAnswer. */
+ * Definition: receiver/specs/Receive receiveStep; dsg/specs/Bodies receivedOf. */
 struct dsg_received dsg_receive(struct dsg_collection *held, struct dsg_table *table, uint8_t *slots,
                                 size_t slots_length, uint8_t *join, size_t join_length, const uint8_t *body,
                                 size_t body_length);
@@ -342,7 +346,8 @@ struct dsg_listed {
 struct dsg_listed dsg_list_table(const struct dsg_table *table, uint8_t count, uint8_t *out, size_t out_length);
 
 /* What dcdlist writes for one body, taken with nothing collected: a table, a refusal, or how many pieces it waits for.
- * Lent, written, refused: as dsg_list_table. Definition: listing/specs; dsg/specs/Tables listedAs. */
+ * Lent, written, refused: as dsg_list_table. It alone takes much stack (two buffers of its own).
+ * Definition: bodies/specs/Body bodyText; dsg/specs/Tables listedAs. */
 struct dsg_listed dsg_list_body(const uint8_t *body, size_t body_length, uint8_t *out, size_t out_length);
 
 /* ---- layout ------------------------------------------------------------------------------------------------- */

@@ -4,6 +4,7 @@
 --   readStepped t msg          what a host has after `dsg_read`: the answer and the table
 --   listedAs l                 an answer of the listing: number 0 and the length of the text, or the refusal
 --   listAfter t count out      what a host has after `dsg_list_table`: the answer and the buffer
+--   bodyAfter body out         what a host has after `dsg_list_body`
 --
 -- What an answer does not use is 0. Trusts: nothing.
 use Prim.Native.Nat.{ℕ}
@@ -14,6 +15,7 @@ use Rattle.reader.specs.declared.Reading.{Reading}
 use Rattle.reader.specs.Read.{numberOf, offsetOf, readTable}
 use Rattle.listing.specs.Text.{tableText}
 use Rattle.listing.specs.Listing.{Written, text, refused, Listing, listing}
+use Rattle.bodies.specs.Body.{bodyText}
 use Rattle.dsg.specs.declared.tables.ReadAnswer.{ReadAnswer}
 use Rattle.dsg.specs.declared.tables.ReadStepped.{ReadStepped}
 use Rattle.dsg.specs.declared.tables.Listed.{Listed}
@@ -40,3 +42,6 @@ listingAs l = record { answer = listedAs (l .answer); out = l .out }
 
 abbrev pub listAfter : Table → ℕ → List ℕ → ListAfter
 listAfter t count out = listingAs (listing (tableText count t) out)
+
+abbrev pub bodyAfter : List ℕ → List ℕ → ListAfter
+bodyAfter body out = listingAs (listing (bodyText body) out)

@@ -1,10 +1,10 @@
-// What a host does with a table: begin with an empty one, read a message into it, list it.
+// What a host does with a table: begin with an empty one, read a message into it, list it or a body.
 //
-// `dsg_empty_table`, `dsg_read` and `dsg_list_table`.
+// `dsg_empty_table`, `dsg_read`, `dsg_list_table` and `dsg_list_body`.
 ghost use mathlib.Core.Path.{_≡_};
 ghost use Rattle.table.specs.Table.{emptyTable};
 ghost use Rattle.listing.specs.Listing.{written};
-ghost use Rattle.dsg.specs.Tables.{readAnswer, readStepped, listedAs, listAfter};
+ghost use Rattle.dsg.specs.Tables.{readAnswer, readStepped, listedAs, listAfter, bodyAfter};
 use table::Table;
 
 // What a message is answered: number 0, or the refusal and the offset that it concerns.
@@ -94,6 +94,15 @@ pub extern "C" fn dsg_list_table(table: &Table, count: u8, out: &mut [u8]) -> Li
     ensures { λ r. ⌜ record { answer = r; out = now (out .exit) } ≡ listAfter (now (table .entry)) count (now (out .entry)) ⌝ }
 {
     list_value(*table, count, out)
+}
+
+// What dcdlist writes for one body. It takes some 70 KB of stack.
+#[no_mangle]
+pub extern "C" fn dsg_list_body(body: &[u8], out: &mut [u8]) -> Listed
+    ensures { λ r. ⌜ record { answer = r; out = now (out .exit) } ≡ bodyAfter (now (body .entry)) (now (out .entry)) ⌝ }
+{
+    let listed = bodies::list_body(body, out);
+    listed_from(listed)
 }
 
 // The table of the empty message.

@@ -1,17 +1,20 @@
 -- Laws of `listing` (specs/Listing.antt), and of lines written one behind the other.
 --
 --   listing-refused   a short buffer                 listing-text    the text was written from 0 on
+--   listing-within    a text that was written lies in the buffer
 --   lined-then        two texts that are short, one behind the other
 -- Trusts: nothing.
 use Prim.Native.Nat.{ℕ, _+_, _≤_, _<_}
 use mathlib.Core.Path.{_≡_, refl, sym, ap, _∙_}
+use mathlib.Core.Bool.{Bool, true, false, cond}
 use mathlib.Core.List.{List, _++_}
 use native.Mathlib.Omega.{arith}
 use native.Mathlib.Nat.{zero-add}
 use borrow.Author.Tests.{lt-ltb, le-ltb}
-use lib.ListN.{length, drop}
+use lib.ListN.{length, drop, length-append}
+use lib.Dec.{ltb}
 use Rattle.wire.proofs.Laws.{pasted-fits, length-pasted}
-use Rattle.listing.specs.Listing.{text, refused, listing}
+use Rattle.listing.specs.Listing.{Written, text, refused, Listing, listing}
 use Rattle.listing.specs.Writing.{Lined}
 use Rattle.listing.proofs.Lengths.{join-short}
 use Rattle.listing.proofs.Written.{fits-most, wrote-then}
@@ -27,6 +30,17 @@ listing-text {most} {bytes} {out} {new} {next} h m w =
     let same : new ≡ bytes ++ drop (length bytes) out =
     w .wrote .bytes ∙ pasted-fits out 0 bytes (omega (arith, w .short .bytes)) ∙ ap (λ (k : ℕ). bytes ++ drop k out) (zero-add (length bytes)) in
     rw (le-ltb (length out) 3755 h, place, same) refl
+
+pub listing-within : {k : ℕ} {new : List ℕ} (bytes out : List ℕ) → record { answer = text k; out = new } ≡ listing bytes out → k ≤ length new
+unfolding listing
+listing-within {k} {new} bytes out e = go (ltb (length out) 3755) e where
+  go : (b : Bool) → _≡_ {A = Listing} (record { answer = text k; out = new }) (cond b (record { answer = refused 100; out = out }) (record { answer = text (length bytes); out = bytes ++ drop (length bytes) out })) → k ≤ length new
+  go true f = let z : _≡_ {A = Written} (text k) (refused 100) = ap (λ (l : Listing). l .answer) f in let w : _≡_ {A = ℕ} 0 1 = cc in absurd (omega arith)
+  go false f =
+      let z : _≡_ {A = Written} (text k) (text (length bytes)) = ap (λ (l : Listing). l .answer) f in
+      let n : k ≡ length bytes = cc in
+      let w : new ≡ bytes ++ drop (length bytes) out = ap (λ (l : Listing). l .out) f in
+      omega (arith, ap length w ∙ length-append bytes (drop (length bytes) out))
 
 -- what follows the first text is told that it has room
 pub lined-then : {out : List ℕ} {at : ℕ} {s t new last : List ℕ} {next end : ℕ} (m n : ℕ) → at + (m + n) ≤ length out → Lined m out at s new next → (next + n ≤ length new → Lined n new next t last end) → Lined (m + n) out at (s ++ t) last end

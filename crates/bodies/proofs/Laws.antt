@@ -1,0 +1,67 @@
+-- Laws of `received` and `bodyText` (specs/Body.antt).
+--
+--   received-from     a step from values that are equal to nothing collected, the empty table and two buffers of 0
+--   bodyText-from     the text of a report, count and table that are equal to those of the body
+--   bodyText-reply    the listing by the reply that a run gives to a first body, which names no buffer: a refused body is `refused N at 0`,
+--                     one of several pieces `waiting K`, and a whole message what its reading says
+--   first-not-again   a first body is no Repeat
+-- Trusts: nothing.
+use Prim.Native.Nat.{ℕ, _≤_}
+use mathlib.Core.Path.{_≡_, refl, ap}
+use mathlib.Core.Bool.{Bool, true, false, cond}
+use mathlib.Core.List.{List, []}
+use native.Mathlib.Omega.{arith}
+use lib.ListN.{length, getD, replicate, length-replicate}
+use lib.Dec.{eqb}
+use Rattle.table.specs.declared.Table.{Table}
+use Rattle.table.specs.Table.{emptyTable}
+use Rattle.collector.specs.Answers.{Said, refused, again, waiting, complete}
+use Rattle.collector.specs.declared.Collection.{Collection}
+use Rattle.collector.specs.Step.{numberOf, emptyCollection}
+use Rattle.collector_demands.specs.Runs.{accepts, lookup, continues, runOf, missing, message, Reply, reply, storedReply, replyOf}
+use Rattle.collector_demands.specs.Demand.{Lent, lentAfter, replyTo}
+use Rattle.collector_demands.proofs.Demands.{demand-2-nothing, blank-nothing}
+use Rattle.receiver.specs.Receive.{Told, Taken, taken, Had, receiveStep}
+use Rattle.bodies.specs.Body.{zeros, received, reportText, bodyText}
+
+pub received-from : {held : Collection} {t : Table} {slots join : List ℕ} (body : List ℕ) {h : Had} → held ≡ emptyCollection 0 0 → t ≡ emptyTable → slots ≡ zeros → join ≡ zeros
+    → h ≡ receiveStep held t slots join body → h ≡ received body
+unfolding received
+received-from body e f g k h = rw (e, f, g, k) at h
+
+pub bodyText-from : (body : List ℕ) {r : Told} {n : ℕ} {t : Table} → r ≡ received body .report → n ≡ getD body 0 0 → t ≡ received body .table → reportText r n t ≡ bodyText body
+unfolding bodyText
+bodyText-from body e f g = rw (e, f, g) refl
+
+-- what is lent at the start
+abbrev start : Lent
+start = record { held = emptyCollection 0 0; slots = zeros; join = zeros }
+
+long : 24000 ≤ length zeros
+unfolding zeros
+long = omega (arith, length-replicate {A = ℕ} 24000 0)
+
+first-reply : (body : List ℕ) → replyTo start [] body ≡ replyOf [] body
+first-reply body = demand-2-nothing start long long blank-nothing [] body .0
+
+-- what is taken up of the reply to a first body
+abbrev pub takenFirst : List ℕ → Taken
+takenFirst body = taken (replyOf [] body .answer) emptyTable (replyOf [] body .lent)
+
+pub bodyText-reply : (body : List ℕ) → bodyText body ≡ reportText (takenFirst body .report) (getD body 0 0) (takenFirst body .table)
+unfolding bodyText received receiveStep lentAfter
+bodyText-reply body =
+    ap (λ (r : Reply). reportText (taken (r .answer) emptyTable (r .lent) .report) (getD body 0 0) (taken (r .answer) emptyTable (r .lent) .table)) (first-reply body)
+
+stored-not-again : (run : List (List ℕ)) (n : ℕ) → storedReply run n .answer ≡ again → ⊥
+stored-not-again run n e = go (eqb (missing (lookup run) n) 0) e where
+  go : (b : Bool) → cond b (reply (complete (length (message (lookup run) n))) (message (lookup run) n)) (reply (waiting (missing (lookup run) n)) []) .answer ≡ again → ⊥
+  go true f = let z : _≡_ {A = ℕ} 0 1 = cc in omega arith
+  go false f = let z : _≡_ {A = ℕ} 0 1 = cc in omega arith
+
+pub first-not-again : (body : List ℕ) → replyOf [] body .answer ≡ again → ⊥
+unfolding replyOf runOf continues
+first-not-again body e = go (accepts body) _ _ e where
+  go : (b : Bool) (run : List (List ℕ)) (n : ℕ) → cond b (storedReply run (numberOf body)) (reply (refused n) []) .answer ≡ again → ⊥
+  go true run n f = stored-not-again run (numberOf body) f
+  go false run n f = let z : _≡_ {A = ℕ} 0 1 = cc in omega arith

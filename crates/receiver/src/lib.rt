@@ -1,0 +1,127 @@
+// One body all the way: collected, and the message read when it is complete.
+//
+// One public function, `receive`. It takes any record, table, buffers and body: bad input is an answer, never a duty of
+// the caller. A refused body changes nothing that is lent. A refused message leaves the table as it was given; its pieces
+// stay collected, so that a further copy of one is a Repeat. Nothing is read before the message is complete.
+ghost use mathlib.Core.Path.{_≡_};
+ghost use lib.ListN.{take, drop};
+ghost use Rattle.collector.specs.Answers.{said, lentOf};
+ghost use Rattle.reader.specs.Read.{readTable};
+ghost use Rattle.receiver.specs.Receive.{told, reported, taken, receiveStep};
+use collector::Answer;
+use collector::Collection;
+use collector::Outcome;
+use reader::Reading;
+use reader::Verdict;
+use table::Table;
+
+// What a body is answered.
+pub enum Report {
+    // The body is refused, 1 to 5; all that is lent is as it was.
+    BodyRefused(u8),
+    // Its slot has these bytes already; nothing changes.
+    Repeat,
+    // Stored; so many slots are empty.
+    Waiting(u8),
+    // The message is complete, and the table is now its own.
+    Accepted,
+    // The message is complete and refused, with this number at this byte of it; the table is as it was.
+    MessageRefused(u8, usize),
+}
+
+// The report, and the record and the table after the call.
+pub struct Received {
+    pub report: Report,
+    pub held: Collection,
+    pub table: Table,
+}
+
+// Reads the first `n` bytes of a buffer, or all where there are fewer.
+fn read_front(table: Table, bytes: &[u8], n: usize) -> Reading
+    ensures { λ r. ⌜ r ≡ readTable table (take n (now (bytes .entry))) ⌝ }
+{
+    if n <= bytes.len() {
+        return reader::read_table(table, &bytes[..n]);
+    }
+    reader::read_table(table, bytes)
+}
+
+// Reads the piece of a body.
+fn read_piece(table: Table, body: &[u8]) -> Reading
+    ensures { λ r. ⌜ r ≡ readTable table (drop 3 (now (body .entry))) ⌝ }
+{
+    if body.len() < 3 {
+        return reader::read_table(table, &body[..0]);
+    }
+    reader::read_table(table, &body[3..])
+}
+
+// How a verdict is reported.
+fn report_of(verdict: Verdict) -> Report
+    ensures { λ r. ⌜ told r ≡ reported verdict ⌝ }
+{
+    match verdict {
+        Verdict::Accepted => Report::Accepted,
+        Verdict::Refused(number, offset) => Report::MessageRefused(number, offset),
+    }
+}
+
+// What is answered after a reading.
+fn finish(held: Collection, reading: Reading) -> Received
+    ensures { λ r. ⌜ (told (r .report) ≡ reported (reading .verdict)) × (r .held ≡ held) × (r .table ≡ reading .table) ⌝ }
+{
+    let table = reading.table;
+    let verdict = reading.verdict;
+    let report = report_of(verdict);
+    Received {
+        report,
+        held,
+        table,
+    }
+}
+
+// What is answered after the collector's outcome: a message that is complete is read, from the body when it came in one
+// piece and from the join buffer otherwise.
+fn take_up(outcome: Outcome, table: Table, body: &[u8], join: &[u8]) -> Received
+    ensures { λ r. ⌜ (record { report = told (r .report); table = r .table } ≡ taken (said (outcome .answer)) table (lentOf (said (outcome .answer)) (outcome .held .number) (now (body .entry)) (now (join .entry)))) × (r .held ≡ outcome .held) ⌝ }
+{
+    let answer = outcome.answer;
+    let held = outcome.held;
+    match answer {
+        Answer::Refused(number) => Received {
+            report: Report::BodyRefused(number),
+            held,
+            table,
+        },
+        Answer::Repeat => Received {
+            report: Report::Repeat,
+            held,
+            table,
+        },
+        Answer::Waiting(empty) => Received {
+            report: Report::Waiting(empty),
+            held,
+            table,
+        },
+        Answer::Complete(size) => {
+            if held.number == 1 {
+                return finish(held, read_piece(table, body));
+            }
+            finish(held, read_front(table, join, size))
+        }
+    }
+}
+
+// One body through the collector and, when it completes the message, through the reader.
+pub fn receive(
+    held: Collection,
+    table: Table,
+    slots: &mut [u8],
+    join: &mut [u8],
+    body: &[u8],
+) -> Received
+    ensures { λ r. ⌜ record { report = told (r .report); held = r .held; table = r .table; slots = now (slots .exit); join = now (join .exit) } ≡ receiveStep held table (now (slots .entry)) (now (join .entry)) (now (body .entry)) ⌝ }
+{
+    let outcome = collector::collect(held, slots, join, body);
+    take_up(outcome, table, body, join)
+}
