@@ -4,20 +4,20 @@
 --   choiceOf-refused       a client: 17
 --   verdictOf-refused      a frame: 16 or 17
 --   headAt-refused         the head of an element: 6 to 8
---   readTable-refused      a message: 3, or 6 to 15; the table is the given one
+--   readTable-refused      a message: 3 at 0, or 6 to 15 at a byte of the message; the table is the given one
 --   steppedModem-refused   an event: 18; the modem record is as it was
 --   listing-refused        a listing: 100, a number of our own; the buffer is as it was
 --
 -- That every entry takes any input is seen in its signature: no public function has a `requires` (docs/CONTRACTS.md); that it ends is part of
 -- `met`. The theorems are about the definitions, which Demand2 and Parts say are what the entries give.
 -- Trusts: nothing.
-use Prim.Native.Nat.{ℕ, zero, suc, _+_, _*_, _-_, _≤_}
+use Prim.Native.Nat.{ℕ, _*_, _-_, _≤_, _<_}
 use mathlib.Core.Path.{_≡_, refl, sym, ap, _∙_}
 use mathlib.Core.Bool.{Bool, true, false, cond, not, _&&_, _||_}
 use mathlib.Core.List.{List, [], _∷_, _++_}
 use mathlib.Core.Logic.{_⊎_, inl, inr}
 use native.Mathlib.Omega.{arith}
-use borrow.Author.Tests.{eqb-false, not-true}
+use borrow.Author.Tests.{eqb-false}
 use lib.ListN.{length, getD, drop}
 use lib.Dec.{eqb, ltb}
 use Rattle.wire.specs.Bytes.{pasted}
@@ -27,7 +27,7 @@ use Rattle.collector.specs.Step.{numberOf, slotOf, pieceOf, bodyRefusal, refusa
 use Rattle.collector.specs.declared.Collection.{Collection}
 use Rattle.table.specs.declared.Client.{Client}
 use Rattle.table.specs.declared.Table.{Table}
-use Rattle.table.specs.Table.{rulesOf, emptyTable}
+use Rattle.table.specs.Table.{rulesOf}
 use Rattle.choice.specs.declared.Ucid.{Ucid}
 use Rattle.choice.specs.declared.Choice.{Choice}
 use Rattle.choice.specs.declared.Choice.the-variants as choice
@@ -41,16 +41,8 @@ use Rattle.elements.specs.Elements.{headAt}
 use Rattle.elements.specs.declared.Head.{Head}
 use Rattle.elements.specs.declared.Head.the-variants as head
 use Rattle.elements.proofs.Laws.{Says, headAt-says}
-use Rattle.rows.specs.declared.Tally.{Tally}
-use Rattle.rows.specs.Tests.{emptyTally}
-use Rattle.rows.specs.Rows.{testedAt}
-use Rattle.rows.proofs.Laws.{testedAt-placed}
-use Rattle.contents.specs.Rows.{Row, rowWith, rowFrom, rowIn}
-use Rattle.reader.specs.Take.{withElement, isTaken, unanswered}
-use Rattle.reader.specs.Read.{refusal, readLone, readRow, readTable}
-use Rattle.reader.specs.declared.Lone.{Lone}
-use Rattle.reader.specs.declared.Lone.the-variants.{Answered, Number}
-use Rattle.reader.specs.declared.Reading.{Reading}
+use Rattle.reader.specs.Read.{readTable}
+use Rattle.reader.proofs.Laws as laws
 use Rattle.reader.specs.declared.Verdict.the-variants as reading
 use Rattle.modem.specs.declared.Modem.{Modem}
 use Rattle.modem.specs.declared.Event.{Event}
@@ -159,46 +151,6 @@ listing-refused text out n = go (ltb (length out) 3755) where
 
 -- ---- reading a table
 
--- a refusal of reading: the given table, and the numbers
-pub record Refusal (given : Table) (a : Reading) (n off : ℕ) : Type 0 where
-  pub table : a .table ≡ given
-  pub number : (n ≡ 3) ⊎ ((6 ≤ n) × (n ≤ 15))
-
-abbrev Refuses : Table → Reading → Type 0
-Refuses given a = (n off : ℕ) → a .verdict ≡ reading.Refused n off → Refusal given a n off
-
-refused-by : (given : Table) (m at : ℕ) → (m ≡ 3) ⊎ ((6 ≤ m) × (m ≤ 15)) → Refuses given (refusal m at given)
-refused-by given m at h n off e = let d : m ≡ n = cc in record { table = refl; number = rw d at h }
-
-either-refuses : (given : Table) (b : Bool) {x y : Reading} → (b ≡ true → Refuses given x) → Refuses given y → Refuses given (cond b x y)
-either-refuses given true h k = h refl
-either-refuses given false h k = k
-
-module _ (given : Table) (msg : List ℕ) where
-  lone-refuses : (t : Table) (l : Lone) → Refuses given (readLone given msg t l)
-  lone-refuses t Answered = λ n off e. absurd (let z : _≡_ {A = ℕ} 0 1 = cc in omega arith)
-  lone-refuses t (Number i j) = refused-by given 15 _ (inr (omega arith, omega arith))
-
-  -- the elements from the one with this head on, where those behind it are known
-  head-refuses : (rest : ℕ → Row) (at end : ℕ) (tally : Tally) (t : Table) (x : Head) → Says msg at end x
-      → ((next : ℕ) (u : Tally) (v : Table) → Refuses given (readRow given msg (rest next) u v)) → Refuses given (readRow given msg (rowWith rest at x) tally t)
-  head-refuses rest at end tally t head.End h later = lone-refuses t (unanswered t)
-  head-refuses rest at end tally t (head.Refused n) h later = refused-by given n at (inr (h .0, omega arith))
-  head-refuses rest at end tally t (head.Value len) h later =
-      either-refuses given (not (eqb (testedAt msg at tally .bad) 0))
-      (λ e. let p = testedAt-placed msg at tally (λ z. eqb-false (testedAt msg at tally .bad) 0 (not-true _ e) z) in refused-by given (testedAt msg at tally .bad) (testedAt msg at tally .off) (inr (p .0, omega arith)))
-      (either-refuses given (isTaken msg at t) (λ e. refused-by given 14 at (inr (omega arith, omega arith)))
-      (later (at + 2 + len) (testedAt msg at tally .tally) (withElement msg at t)))
-
-  -- the elements from a place on, `left` bytes or fewer
-  row-refuses : (left at end : ℕ) (tally : Tally) (t : Table) → Refuses given (readRow given msg (rowFrom left msg at end) tally t)
-  unfolding rowFrom
-  row-refuses zero at end tally t = lone-refuses t (unanswered t)
-  row-refuses (suc left) at end tally t =
-      head-refuses (λ next. rowFrom left msg next end) at end tally t (headAt msg at end) (headAt-says msg at end) (λ next u v. row-refuses left next end u v)
-
-  pub readTable-refused : (n off : ℕ) → readTable given msg .verdict ≡ reading.Refused n off → Refusal given (readTable given msg) n off
-  unfolding readTable rowIn
-  readTable-refused =
-      either-refuses given (ltb 23952 (length msg)) (λ e. refused-by given 3 0 (inl refl))
-      (row-refuses (length msg - 0) 0 (length msg) emptyTally emptyTable)
+pub readTable-refused : (given : Table) (msg : List ℕ) (n off : ℕ) → readTable given msg .verdict ≡ reading.Refused n off
+    → (readTable given msg .table ≡ given) × (((n ≡ 3) × (off ≡ 0)) ⊎ ((6 ≤ n) × (n ≤ 15) × (off < length msg)))
+readTable-refused given msg n off e = laws.readTable-refused given msg e

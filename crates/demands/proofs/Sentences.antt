@@ -2,67 +2,85 @@
 --
 --   readTable-alone        "Elements": the verdict, and the table of an accepted message, do not depend on the table that is given
 --   emptyIds-fitsNobody    "Elements": a rule that lists no client fits nobody
---                          (that a 50.4 without a known child is accepted is `emptyIds-accepted` of proofs/Messages.antt)
+--   emptyIds-accepted      "Elements": a 50.4 without a known child is accepted; here its child is of type 99
 --
 -- Trusts: nothing.
 use Prim.Native.Nat.{ℕ}
-use mathlib.Core.Path.{_≡_, refl, sym, ap, _∙_}
-use mathlib.Core.Bool.{Bool, true, false, cond, not}
+use mathlib.Core.Path.{_≡_, refl}
+use mathlib.Core.Bool.{false}
 use mathlib.Core.List.{List, [], _∷_}
-use native.Mathlib.Omega.{arith}
-use lib.ListN.{length}
-use lib.Dec.{eqb, ltb}
+use lib.ListN.{replicate}
+use Rattle.wire.specs.Bytes.{numberAt, pasted}
 use Rattle.table.specs.declared.Client.{Client}
 use Rattle.table.specs.declared.Rule.{Rule}
 use Rattle.table.specs.declared.Table.{Table}
-use Rattle.table.specs.Table.{clientsOf, emptyTable}
+use Rattle.table.specs.Table.{rulesOf, classifiersOf, clientsOf, numbersOf, emptyClient, emptyRule, emptyTable}
+use Rattle.elements.specs.Elements.{headAt}
+use Rattle.elements.specs.Types.{knownTypes}
+use Rattle.elements.specs.Places.{childOf, under, placed, typeOf, parentIn, table, lineAt, placeIn, knownAt, typeUnder, missingIn, lacksMust}
+use Rattle.rows.specs.declared.Tally.{Tally}
+use Rattle.rows.specs.Tests.{secondCopy, wrongLength, noChannel, badValue, isFull, ownTests, isRow, rowEnd, emptyTally}
+use Rattle.rows.specs.Rows as rows
+use Rattle.rows.specs.Rows.{elementWith, rowStep, rowOf, elementOf, testedAt}
+use Rattle.contents.specs.Rows.{done, item, rowFrom, rowIn, rowInside}
+use Rattle.contents.specs.Rules.{withClientChild, clientsIn, withRuleChild, ruleAt}
 use Rattle.choice.specs.declared.Ucid.{Ucid}
 use Rattle.choice.specs.Best.{anyOf}
 use Rattle.choice.specs.Choose.{listsClient, fitsClient}
-use Rattle.contents.specs.Rows.{Row, done, bad, item, rowIn}
-use Rattle.rows.specs.declared.Tally.{Tally}
-use Rattle.rows.specs.Tests.{emptyTally}
-use Rattle.rows.specs.Rows.{testedAt}
-use Rattle.reader.specs.Take.{withElement, isTaken, unanswered}
-use Rattle.reader.specs.Read.{refusal, readLone, readRow, readTable}
-use Rattle.reader.specs.declared.Lone.{Lone}
-use Rattle.reader.specs.declared.Lone.the-variants.{Answered, Number}
+use Rattle.reader.specs.Take.{withRule, withElement, isTaken, unanswered}
+use Rattle.reader.specs.Read.{readTable}
+use Rattle.reader.specs.declared.Lone.the-variants.{Answered}
 use Rattle.reader.specs.declared.Reading.{Reading}
-use Rattle.reader.specs.declared.Verdict.{Verdict}
-use Rattle.reader.specs.declared.Verdict.the-variants.{Accepted, Refused}
+use Rattle.reader.specs.declared.Verdict.the-variants.{Accepted}
+use Rattle.reader.proofs.Laws.{readTable-verdict, readTable-table}
+use Rattle.reader.proofs.Bench.{accepted}
 
 -- ---- the table follows from the message alone
 
--- two readings say the same, but for the given table after a refusal
-pub record Same (a b : Reading) : Type 0 where
-  pub verdict : a .verdict ≡ b .verdict
-  pub table : a .verdict ≡ Accepted → a .table ≡ b .table
-
-refused-same : (n off : ℕ) (g h : Table) → Same (refusal n off g) (refusal n off h)
-refused-same n off g h = record { verdict = refl; table = λ e. absurd (let z : _≡_ {A = ℕ} 0 1 = cc in omega arith) }
-
-either-same : (b : Bool) {x y x′ y′ : Reading} → Same x x′ → Same y y′ → Same (cond b x y) (cond b x′ y′)
-either-same true s r = s
-either-same false s r = r
-
-module _ (g h : Table) (msg : List ℕ) where
-  lone-same : (t : Table) (l : Lone) → Same (readLone g msg t l) (readLone h msg t l)
-  lone-same t Answered = record { verdict = refl; table = λ e. refl }
-  lone-same t (Number i j) = refused-same 15 _ g h
-
-  row-same : (row : Row) (tally : Tally) (t : Table) → Same (readRow g msg row tally t) (readRow h msg row tally t)
-  row-same done tally t = lone-same t (unanswered t)
-  row-same (bad at n) tally t = refused-same n at g h
-  row-same (item at len rest) tally t =
-      either-same (not (eqb (testedAt msg at tally .bad) 0)) (refused-same (testedAt msg at tally .bad) (testedAt msg at tally .off) g h)
-      (either-same (isTaken msg at t) (refused-same 14 at g h) (row-same rest (testedAt msg at tally .tally) (withElement msg at t)))
-
-  pub readTable-alone : Same (readTable g msg) (readTable h msg)
-  unfolding readTable
-  readTable-alone = either-same (ltb 23952 (length msg)) (refused-same 3 0 g h) (row-same (rowIn msg 0 (length msg)) emptyTally emptyTable)
+pub readTable-alone : (g h : Table) (msg : List ℕ)
+    → (readTable g msg .verdict ≡ readTable h msg .verdict) × (readTable g msg .verdict ≡ Accepted → readTable g msg .table ≡ readTable h msg .table)
+readTable-alone g h msg = (readTable-verdict g h msg, readTable-table g h msg)
 
 -- ---- a rule that lists nobody
 
 pub emptyIds-fitsNobody : (rule : Rule) → rule .clientcount ≡ 0 → (c : Client) (u : Ucid) → fitsClient c u rule ≡ false
 unfolding fitsClient listsClient clientsOf anyOf
 emptyIds-fitsNobody rule e c u = rw e refl
+
+-- the tally after so many rules and configurations
+abbrev after : ℕ → ℕ → Tally
+after rules configurations = record { counts = 0 ∷ rules ∷ configurations ∷ 0 ∷ 0 ∷ 0 ∷ 0 ∷ 0 ∷ [] }
+
+abbrev tableWith : ℕ → List Rule → ℕ → List ℕ → Table
+tableWith n rules k channels =
+    record { rulecount = n; classifiercount = 0; channelcount = k; timers = emptyTable .timers; channels = channels; classifiers = emptyTable .classifiers; rules = rules }
+
+-- ---- a rule whose 50.4 has no known child, only one of type 99
+
+abbrev nobody : Table
+nobody =
+    tableWith 1 (record { number = 5; priority = 0; ucidcount = 0; clientcount = 0; numbercount = 0; ucids = replicate 16 0; numbers = replicate 8 0; tunnel = 0x01005e050505; clients = replicate 8 emptyClient } ∷ replicate 31 emptyRule) 0 (replicate 32 0)
+
+row-nobody : rowIn (0x32 ∷ 16 ∷ 1 ∷ 1 ∷ 5 ∷ 4 ∷ 3 ∷ 0x63 ∷ 1 ∷ 0 ∷ 5 ∷ 6 ∷ 1 ∷ 0 ∷ 0x5E ∷ 5 ∷ 5 ∷ 5 ∷ []) 0 18 ≡ item 0 16 done
+unfolding rowFrom rowIn headAt
+row-nobody = refl
+
+tested-nobody : testedAt (0x32 ∷ 16 ∷ 1 ∷ 1 ∷ 5 ∷ 4 ∷ 3 ∷ 0x63 ∷ 1 ∷ 0 ∷ 5 ∷ 6 ∷ 1 ∷ 0 ∷ 0x5E ∷ 5 ∷ 5 ∷ 5 ∷ []) 0 emptyTally ≡ record { bad = 0; off = 0; next = 18; tally = after 1 0 }
+unfolding numberAt headAt knownTypes childOf under placed typeOf parentIn table lineAt placeIn knownAt typeUnder missingIn lacksMust secondCopy wrongLength noChannel badValue isFull ownTests isRow rowEnd elementWith rowStep rows.rowFrom rowOf elementOf testedAt
+tested-nobody = refl
+
+free-nobody : isTaken (0x32 ∷ 16 ∷ 1 ∷ 1 ∷ 5 ∷ 4 ∷ 3 ∷ 0x63 ∷ 1 ∷ 0 ∷ 5 ∷ 6 ∷ 1 ∷ 0 ∷ 0x5E ∷ 5 ∷ 5 ∷ 5 ∷ []) 0 emptyTable ≡ false
+unfolding isTaken rulesOf numberAt pasted headAt rowFrom rowIn rowInside withClientChild clientsIn withRuleChild ruleAt withRule withElement
+free-nobody = refl
+
+with-nobody : withElement (0x32 ∷ 16 ∷ 1 ∷ 1 ∷ 5 ∷ 4 ∷ 3 ∷ 0x63 ∷ 1 ∷ 0 ∷ 5 ∷ 6 ∷ 1 ∷ 0 ∷ 0x5E ∷ 5 ∷ 5 ∷ 5 ∷ []) 0 emptyTable ≡ nobody
+unfolding numberAt pasted headAt rowFrom rowIn rowInside withClientChild clientsIn withRuleChild ruleAt withRule withElement
+with-nobody = refl
+
+answered-nobody : unanswered nobody ≡ Answered
+unfolding unanswered rulesOf numbersOf classifiersOf
+answered-nobody = refl
+
+pub emptyIds-accepted : (given : Table) → readTable given (0x32 ∷ 16 ∷ 1 ∷ 1 ∷ 5 ∷ 4 ∷ 3 ∷ 0x63 ∷ 1 ∷ 0 ∷ 5 ∷ 6 ∷ 1 ∷ 0 ∷ 0x5E ∷ 5 ∷ 5 ∷ 5 ∷ []) ≡ accepted nobody
+unfolding readTable
+emptyIds-accepted given = rw (row-nobody, tested-nobody, free-nobody, with-nobody, answered-nobody) refl

@@ -8,11 +8,13 @@
 -- collector and any lent buffers. That the code does what the definitions give is in Demand2.
 -- Trusts: nothing.
 use Prim.Native.Nat.{ℕ}
-use mathlib.Core.Path.{_≡_, refl}
+use mathlib.Core.Path.{_≡_, refl, ap}
 use mathlib.Core.List.{List, [], _∷_}
+use lib.ListN.{getD}
+use Rattle.table.specs.declared.Client.{Client}
 use Rattle.table.specs.declared.Table.{Table}
 use Rattle.table.specs.Table.{rulesOf, clientsOf, emptyTable}
-use Rattle.reader.specs.Read.{readTable}
+use Rattle.reader.specs.Read.{refusal, readTable}
 use Rattle.reader.specs.declared.Reading.{Reading}
 use Rattle.reader.specs.declared.Verdict.{Verdict}
 use Rattle.reader.specs.declared.Verdict.the-variants as verdict
@@ -25,7 +27,8 @@ use Rattle.collector.specs.Answers.{Said, waiting, complete}
 use Rattle.collector_demands.specs.Runs.{replyOf}
 use Rattle.collector_demands.proofs.Bench.{M, firstBody, secondBody, cut-example}
 use Rattle.modem.specs.Step.{clockStep}
-use Rattle.demands.proofs.Messages.{application, tableOfM, tdsg3-0, read-M, read-empty, read-32, read-32-FF, read-32-00, read-twice, read-tdsg1, read-tdsg3, read-63}
+use Rattle.reader.proofs.Bench as reader
+use Rattle.reader.proofs.Bench.{tableM, withTdsg3}
 
 -- what an example comes to
 pub data Outcome : Type 0 where
@@ -50,6 +53,10 @@ outcome (verdict.Refused n at) t = refusedAt n at
 
 abbrev pub read : Table → List ℕ → Outcome
 read given msg = outcome (readTable given msg .verdict) (readTable given msg .table)
+
+-- application 42
+abbrev application : Client
+application = record { kind = 4; value = 42 }
 
 abbrev pub examples : Table → List Outcome
 examples given =
@@ -87,14 +94,43 @@ expected =
     -- 33 04 02 02 00 00
     ∷ refusedAt 11 2
     -- 33 04 04 02 00 00: accepted, Tdsg3 0
-    ∷ accepted tdsg3-0
+    ∷ accepted (withTdsg3 0)
     -- 63 01 00: accepted, empty
     ∷ accepted emptyTable
     -- clock FFFFFF00, then 00000100
     ∷ step 512
     ∷ []
 
-gets-M : choiceOf tableOfM application Unknown ≡ choice.Chosen 0
+-- ---- the readings, as crate reader computes them
+
+read-M : (given : Table) → readTable given M ≡ reader.accepted tableM
+read-M given = ap (λ (l : List Reading). getD l 8 (reader.accepted emptyTable)) (reader.starred given)
+
+read-empty : (given : Table) → readTable given [] ≡ reader.accepted emptyTable
+read-empty given = ap (λ (l : List Reading). getD l 0 (reader.accepted emptyTable)) (reader.starred given)
+
+read-32 : (given : Table) → readTable given (0x32 ∷ []) ≡ refusal 6 0 given
+read-32 given = ap (λ (l : List Reading). getD l 1 (reader.accepted emptyTable)) (reader.starred given)
+
+read-32-FF : (given : Table) → readTable given (0x32 ∷ 0xFF ∷ []) ≡ refusal 7 0 given
+read-32-FF given = ap (λ (l : List Reading). getD l 2 (reader.accepted emptyTable)) (reader.starred given)
+
+read-32-00 : (given : Table) → readTable given (0x32 ∷ 0 ∷ []) ≡ refusal 13 0 given
+read-32-00 given = ap (λ (l : List Reading). getD l 3 (reader.accepted emptyTable)) (reader.starred given)
+
+read-twice : (given : Table) → readTable given (0x33 ∷ 0 ∷ 0x33 ∷ 0 ∷ []) ≡ refusal 9 2 given
+read-twice given = ap (λ (l : List Reading). getD l 4 (reader.accepted emptyTable)) (reader.starred given)
+
+read-tdsg1 : (given : Table) → readTable given (0x33 ∷ 4 ∷ 2 ∷ 2 ∷ 0 ∷ 0 ∷ []) ≡ refusal 11 2 given
+read-tdsg1 given = ap (λ (l : List Reading). getD l 5 (reader.accepted emptyTable)) (reader.starred given)
+
+read-tdsg3 : (given : Table) → readTable given (0x33 ∷ 4 ∷ 4 ∷ 2 ∷ 0 ∷ 0 ∷ []) ≡ reader.accepted (withTdsg3 0)
+read-tdsg3 given = ap (λ (l : List Reading). getD l 6 (reader.accepted emptyTable)) (reader.starred given)
+
+read-63 : (given : Table) → readTable given (0x63 ∷ 1 ∷ 0 ∷ []) ≡ reader.accepted emptyTable
+read-63 given = ap (λ (l : List Reading). getD l 7 (reader.accepted emptyTable)) (reader.starred given)
+
+gets-M : choiceOf tableM application Unknown ≡ choice.Chosen 0
 unfolding rulesOf clientsOf comesBefore anyOf firstPlace isBest bestPlace isClient listsClient admitsUcid fitsClient chosenPlace choiceOf
 gets-M = refl
 
