@@ -1,3 +1,2 @@
--- Laws: what proofs here may know of received and bodyText.
--- Bench: document 01's example, computed.
+-- Laws: what proofs here and above may know of received and bodyText.
 pub mod Laws

@@ -7,7 +7,7 @@
 --   bodyText body      the listing of the body: that of its report, under its own change count
 --
 -- A first body is no Repeat (proofs/Laws.antt), so that case is never shown.
--- Tested by: document 01's example in proofs/Bench.antt; the samples of examples/.
+-- Tested by: document 01's example, on which dcdlist is run; the samples of examples/bodies.
 -- Trusts: nothing.
 use Prim.Native.Nat.{ℕ}
 use mathlib.Core.List.{List}

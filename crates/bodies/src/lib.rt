@@ -1,7 +1,7 @@
 // The listing of one body by itself: what `dcdlist` writes.
 //
 // One public function, `list_body`. It takes any body and any buffer; a buffer under `listing::LISTING_BYTES` is refused and
-// stays as it was. It needs some 70 KB of stack: two buffers of 24,000 bytes, and a table as it goes from call to call.
+// stays as it was. It needs some 141,000 bytes of stack: two buffers of 24,000, and a table that goes by value from call to call.
 ghost use mathlib.Core.Path.{_≡_};
 ghost use lib.ListN.{getD};
 ghost use Rattle.receiver.specs.Receive.{told};

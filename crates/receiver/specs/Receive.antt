@@ -8,7 +8,7 @@
 --
 -- The record and the buffers are those that `collectStep` leaves, whatever the reader says: where the message is complete and refused the
 -- collector took the body, so its piece stays held, and the same piece again is a Repeat. A refusal of the body itself leaves all as it was.
--- Tested by: the bench example in proofs/Bench.antt; bodies and messages against the other program in host/.
+-- Tested by: the samples of examples/bodies; bodies and messages against the other program in host/.
 -- Trusts: nothing.
 use Prim.Native.Nat.{ℕ}
 use mathlib.Core.List.{List}

@@ -8,7 +8,7 @@
 --                             those of the uncut message; whatever comes after changes neither
 --
 -- Cuttings, bodies and arrivals are those of collector_demands/specs/Demand.antt; a history has its newest body first.
--- Tested by: the bench example in crate demands.
+-- Tested by: the examples of cuttings and arrivals in collector_demands/proofs/Bench.antt.
 -- Trusts: nothing.
 use Prim.Native.Nat.{ℕ, _+_, _<_}
 use mathlib.Core.Path.{_≡_}
