@@ -5,6 +5,7 @@
 --   isTaken msg at t       14: the rule or classifier at `at` has a number that one in t has already
 --   unanswered t           15: the first number that a rule of t names and no classifier of t carries, as rule i, number j; or Answered
 --   namedPlace msg i j     where the j-th 50.6 of the i-th 50 stands (both counted from 0)
+--   RulesSized t           a duty of the private search for 15, which no public promise cites: the rules of t have their room for numbers
 --
 -- A rule, classifier or channel beyond the room is passed over here; test 12 refuses its message.
 -- Tested by: proofs/Bench.antt.
