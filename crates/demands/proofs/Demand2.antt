@@ -26,6 +26,10 @@ use Rattle.reader.specs.Read.{readTable}
 use Rattle.reader.proofs.read_table.Reads as read_table
 use Rattle.reader.proofs.read_table.Statement as read_table′
 use Rattle.reader.proofs.read_table.Met as read_table″
+use Rattle.receiver.specs.Receive.{told, Had, receiveStep}
+use Rattle.receiver.proofs.receive.Reads as receive
+use Rattle.receiver.proofs.receive.Statement as receive′
+use Rattle.receiver.proofs.receive.Met as receive″
 use Rattle.choice.specs.Best.{isBetter}
 use Rattle.choice.specs.Choose.{choiceOf}
 use Rattle.choice.proofs.is_better.Reads as is_better
@@ -98,6 +102,15 @@ read_table-met = read_table″.met
 
 pub read_table-gives : (κs : Lfts 1) → Gives answer (read_table.Post κs) (λ a. readTable (a .0) (now (a .1 .0)))
 read_table-gives κs a x s h = h
+
+-- ---- one body all the way: the report, the record, the table and both buffers
+
+pub receive-met : {M : Type 1} → receive′.statement M
+receive-met = receive″.met
+
+pub receive-gives : (κs : Lfts 3) → Gives {L = Had} (λ x s. record { report = told (x .report); held = x .held; table = x .table; slots = now (s .1 .1 .0); join = now (s .1 .1 .1 .0) }) (receive.Post κs)
+    (λ a. receiveStep (a .0) (a .1 .0) (now (a .1 .1 .0)) (now (a .1 .1 .1 .0)) (now (a .1 .1 .1 .1 .0)))
+receive-gives κs a x s h = h
 
 -- ---- choosing the tunnel for a client
 

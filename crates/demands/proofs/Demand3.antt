@@ -3,6 +3,7 @@
 --
 --   EndToEnd     the collector's part (crate collector_demands, specs/Demand.antt: silent, once, last), and what reading gives at completion
 --   demand-3     it holds from any lent record that holds nothing, or a collection under another count or number, with buffers long enough
+--   demand-3-received   the same of `receiveStep`: read once, with the report and the table of the uncut message
 --   uncut-short  such a message has at most 23,952 bytes, so reading does not refuse it for its length
 --
 -- Whether the record and the buffers come back untouched between the calls is the host's part; here they are what the last call left.
@@ -16,6 +17,8 @@ use Rattle.reader.specs.Read.{readTable}
 use Rattle.collector_demands.specs.Runs.{Reply}
 use Rattle.collector_demands.specs.Demand as collected
 use Rattle.collector_demands.specs.Demand.{Lent, replyTo, Cutting, bodyOf, Arrived, Came, Apart}
+use Rattle.receiver_demands.specs.EndToEnd.{Kept, ReadOnce}
+use Rattle.receiver_demands.proofs.Demands.{demand-3-read}
 use Rattle.collector_demands.proofs.Kept.{length-cut}
 use Rattle.collector_demands.proofs.Demands as collected-proved
 
@@ -34,3 +37,8 @@ demand-3 s room space count message pieces cut apart =
 
 pub uncut-short : (message : List ℕ) (pieces : List (List ℕ)) → Cutting message pieces → length message ≤ 23952
 uncut-short = length-cut
+
+-- the same of the receiver's own step, over the whole history: crate receiver_demands
+pub demand-3-received : (s : Kept) → 24000 ≤ length (s .slots) → 24000 ≤ length (s .join) → (count : ℕ) (message : List ℕ) (pieces : List (List ℕ)) → Cutting message pieces
+    → Apart (s .held) count (length pieces) → ReadOnce s count message pieces
+demand-3-received = demand-3-read

@@ -49,6 +49,9 @@ use Rattle.modem.proofs.step_modem.Reads as step_modem
 use Rattle.modem.proofs.step_numbered.Reads as step_numbered
 use Rattle.modem.proofs.transmits.Reads as transmits
 use Rattle.modem.proofs.forwards.Reads as forwards
+use Rattle.receiver.specs.Receive.{told, Had}
+use Rattle.receiver.proofs.receive.Reads as receive
+use Rattle.bodies.proofs.list_body.Reads as list_body
 use Rattle.listing.proofs.list_table.Reads as list_table
 use Rattle.listing.proofs.list_refusal.Reads as list_refusal
 use Rattle.listing.proofs.list_waiting.Reads as list_waiting
@@ -191,3 +194,13 @@ list_refusal-one κs = only (parts.list_refusal-gives κs)
 
 pub list_waiting-one : (κs : Lfts 1) → One {L = Listing} (λ x s. record { answer = written x; out = now (s .1 .0) }) (list_waiting.Post κs)
 list_waiting-one κs = only (parts.list_waiting-gives κs)
+
+-- ---- receiver
+
+pub receive-one : (κs : Lfts 3) → One {L = Had} (λ x s. record { report = told (x .report); held = x .held; table = x .table; slots = now (s .1 .1 .0); join = now (s .1 .1 .1 .0) }) (receive.Post κs)
+receive-one κs = only (demand2.receive-gives κs)
+
+-- ---- bodies
+
+pub list_body-one : (κs : Lfts 2) → One {L = Listing} (λ x s. record { answer = written x; out = now (s .1 .0) }) (list_body.Post κs)
+list_body-one κs = only (parts.list_body-gives κs)

@@ -1,4 +1,4 @@
--- Parts: what the public functions of the lower crates give (wire, table, elements, rows, contents, listing): each its definition, for every input.
+-- Parts: what the public functions of the lower crates give (wire, table, elements, rows, contents, listing, bodies): each its definition, for every input.
 --
 -- It says nothing of what the definitions mean; docs/MAP.md says where they stand. `met` of each function, in its own crate, says that the
 -- compiled function meets the contract cited here.
@@ -38,6 +38,8 @@ use Rattle.contents.proofs.classifier_at.Reads as classifier_at
 use Rattle.contents.proofs.configuration_at.Reads as configuration_at
 use Rattle.listing.specs.Text.{tableText, refusalText, waitingText}
 use Rattle.listing.specs.Listing.{Listing, written, listing}
+use Rattle.bodies.specs.Body.{bodyText}
+use Rattle.bodies.proofs.list_body.Reads as list_body
 use Rattle.listing.proofs.list_table.Reads as list_table
 use Rattle.listing.proofs.list_refusal.Reads as list_refusal
 use Rattle.listing.proofs.list_waiting.Reads as list_waiting
@@ -116,3 +118,6 @@ list_refusal-gives κs a x s h = h
 
 pub list_waiting-gives : (κs : Lfts 1) → Gives {L = Listing} (λ x s. record { answer = written x; out = now (s .1 .0) }) (list_waiting.Post κs) (λ a. listing (waitingText (a .0)) (now (a .1 .0)))
 list_waiting-gives κs a x s h = h
+
+pub list_body-gives : (κs : Lfts 2) → Gives {L = Listing} (λ x s. record { answer = written x; out = now (s .1 .0) }) (list_body.Post κs) (λ a. listing (bodyText (now (a .0))) (now (a .1 .0)))
+list_body-gives κs a x s h = h
