@@ -2,6 +2,7 @@
 //!
 //! DCDLIST names the program; without it, it is looked for where `rt check dcdlist` puts it.
 
+use reference::protocol::request::Request;
 use requests::generator::{Area, Generator};
 use std::env;
 use std::io::Write;
@@ -43,19 +44,12 @@ fn expected(body: &[u8]) -> String {
     lines.iter().map(|line| format!("{line}\n")).collect()
 }
 
-fn bytes(hex: &str) -> Vec<u8> {
-    let digits = hex.trim_start_matches('-').as_bytes();
-    let digit = |b: u8| char::from(b).to_digit(16).expect("a hex digit") as u8;
-    digits
-        .chunks(2)
-        .map(|pair| digit(pair[0]) << 4 | digit(pair[1]))
-        .collect()
-}
-
 #[test]
 fn same_as_other_program_on_a_thousand_bodies() {
-    let bodies = Generator::new(7, Area::List)
-        .filter_map(|request| request.strip_prefix("list ").map(bytes));
+    let bodies = Generator::new(7, Area::List).filter_map(|request| match request {
+        Request::List(body) => Some(body),
+        _ => None,
+    });
     for body in bodies.take(1_000) {
         assert_eq!(listed(&body), expected(&body), "{body:02x?}");
     }
