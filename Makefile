@@ -13,7 +13,7 @@ PROVED := crates.txt $(shell find crates -name '*.rt' -o -name '*.antt')
 SEED := 1
 COUNT := 60000
 AREA := all
-MEMCHECK_COUNT := 1500
+MEMCHECK_COUNT := 10000
 
 .PHONY: sample dcdlist test after-prove layout prove library host host-test samples host-c bench memcheck measure clean help
 
