@@ -1,4 +1,5 @@
-//! The boundary: the only unsafe code. One safe function for each function of the library.
+//! The boundary: the only unsafe code. One safe function for each function of the library, with the
+//! library's own answers; [`crate::lent`] gives them Rust's types.
 //!
 //! Every function of the library takes any bytes and any numbers, has no state of its own, allocates
 //! nothing and keeps no pointer after it returns (`include/dsg.h`). What is left to show is that the
@@ -11,10 +12,15 @@ use crate::records::{Collection, Modem, Table, Tunnel};
 #[repr(C)]
 #[derive(Clone, Copy, Debug, PartialEq, Eq)]
 pub struct Collected {
+    /// 0 refused, 1 repeat, 2 waiting, 3 complete in the body, 4 complete in the join buffer.
     pub kind: u32,
+    /// The refusal's number.
     pub number: u32,
+    /// The empty slots of a collection that waits.
     pub empty: usize,
+    /// Where the message begins.
     pub start: usize,
+    /// How many bytes it has.
     pub length: usize,
 }
 
@@ -22,7 +28,9 @@ pub struct Collected {
 #[repr(C)]
 #[derive(Clone, Copy, Debug, PartialEq, Eq)]
 pub struct ReadAnswer {
+    /// 0, or the refusal's number.
     pub number: u32,
+    /// The refusal's offset.
     pub offset: usize,
 }
 
@@ -30,9 +38,13 @@ pub struct ReadAnswer {
 #[repr(C)]
 #[derive(Clone, Copy, Debug, PartialEq, Eq)]
 pub struct Received {
+    /// 0 body refused, 1 repeat, 2 waiting, 3 table accepted, 4 message refused.
     pub kind: u32,
+    /// The refusal's number.
     pub number: u32,
+    /// The empty slots of a collection that waits.
     pub empty: usize,
+    /// The refusal's offset.
     pub offset: usize,
 }
 
@@ -40,7 +52,9 @@ pub struct Received {
 #[repr(C)]
 #[derive(Clone, Copy, Debug, PartialEq, Eq)]
 pub struct Choice {
+    /// 0, or the refusal's number.
     pub number: u32,
+    /// The rule's place in the table.
     pub place: usize,
 }
 
@@ -48,9 +62,13 @@ pub struct Choice {
 #[repr(C)]
 #[derive(Clone, Copy, Debug, PartialEq, Eq)]
 pub struct Judged {
+    /// 0 refused, 1 other, 2 forward, 3 filtered.
     pub kind: u32,
+    /// The refusal's number, or the classifier's.
     pub number: u32,
+    /// Where the payload begins.
     pub start: usize,
+    /// How many bytes it has.
     pub length: usize,
 }
 
@@ -58,7 +76,9 @@ pub struct Judged {
 #[repr(C)]
 #[derive(Clone, Copy, Debug, PartialEq, Eq)]
 pub struct Listed {
+    /// 0, or the refusal's number.
     pub number: u32,
+    /// How many bytes the text has.
     pub length: usize,
 }
 

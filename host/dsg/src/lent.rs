@@ -155,7 +155,8 @@ pub enum Event {
 
 impl Event {
     /// The event's number and its values, as the header has them.
-    fn numbers(self) -> (u8, [u16; 4]) {
+    #[must_use]
+    pub fn numbers(self) -> (u8, [u16; 4]) {
         match self {
             Event::Start { permitted } => (1, [u16::from(permitted), 0, 0, 0]),
             Event::Locked => (2, [0; 4]),

@@ -23,7 +23,7 @@
 #![deny(unsafe_code, missing_docs)]
 
 #[allow(unsafe_code)]
-mod ffi;
+pub mod ffi;
 pub mod lent;
 pub mod records;
 

@@ -1,7 +1,8 @@
 //! `make measure`: one run, a line for each piece of work, the library beside plain Rust and, where it
-//! applies, beside a plain copy of the same bytes. Times are medians of interleaved rounds.
+//! applies, beside a plain copy of the same bytes. The library is called as a C host calls it. Times are
+//! medians of interleaved rounds.
 
-use dsg::lent;
+use dsg::ffi;
 use dsg::records::Client;
 use dsg::{Collection, Event, Modem, Table, Tunnel, BUFFER_BYTES};
 use measure::inputs::{frame, long_rows, sixteen_bodies, table_message, unlisted, LONGEST};
@@ -32,7 +33,7 @@ fn reading(what: &str, message: &[u8]) {
         1,
         vec![
             runner("library", || {
-                black_box(lent::read_table(&mut ours, black_box(message)).is_ok());
+                black_box(ffi::read(&mut ours, black_box(message)));
             }),
             runner("plain", || {
                 black_box(plain::read::read_table(&mut theirs, black_box(message)).is_ok());
@@ -54,7 +55,7 @@ fn collecting() {
             runner("library", || {
                 let mut held = Collection::default();
                 for body in &bodies {
-                    black_box(lent::collect(&mut held, &mut s1, &mut j1, black_box(body)).is_ok());
+                    black_box(ffi::collect(&mut held, &mut s1, &mut j1, black_box(body)));
                 }
             }),
             runner("plain", || {
@@ -92,7 +93,7 @@ fn repeating() {
         let (mut slots, mut join) = (vec![0u8; BUFFER_BYTES], vec![0u8; BUFFER_BYTES]);
         let mut held = Collection::default();
         for body in &bodies {
-            let _ = lent::collect(&mut held, &mut slots, &mut join, body);
+            ffi::collect(&mut held, &mut slots, &mut join, body);
         }
         (held, slots, join)
     };
@@ -103,7 +104,12 @@ fn repeating() {
         1,
         vec![
             runner("library", || {
-                black_box(lent::collect(&mut h1, &mut s1, &mut j1, black_box(&bodies[0])).is_ok());
+                black_box(ffi::collect(
+                    &mut h1,
+                    &mut s1,
+                    &mut j1,
+                    black_box(&bodies[0]),
+                ));
             }),
             runner("plain", || {
                 black_box(plain::collect::collect(
@@ -130,7 +136,13 @@ fn choosing(rules: u8) {
         1,
         vec![
             runner("library", || {
-                black_box(lent::choose_rule(black_box(&table), client(rules - 1), Some(4)).is_ok());
+                black_box(ffi::choose(
+                    black_box(&table),
+                    4,
+                    client(rules - 1).value,
+                    1,
+                    4,
+                ));
             }),
             runner("plain", || {
                 black_box(plain::judge::choose_rule(
@@ -161,9 +173,15 @@ fn judging() {
             1,
             vec![
                 runner("library", || {
-                    let verdict =
-                        lent::judge_frame(black_box(&table), client(9), Some(4), black_box(&frame));
-                    black_box(verdict.is_ok());
+                    let id = client(9).value;
+                    black_box(ffi::judge(
+                        black_box(&table),
+                        4,
+                        id,
+                        1,
+                        4,
+                        black_box(&frame),
+                    ));
                 }),
                 runner("plain", || {
                     let verdict = plain::judge::judge_frame(
@@ -189,7 +207,7 @@ fn judging_prepared() {
             1,
             vec![
                 runner("library", || {
-                    black_box(lent::judge_prepared(black_box(&ours), black_box(&frame)).is_ok());
+                    black_box(ffi::judge_prepared(black_box(&ours), black_box(&frame)));
                 }),
                 runner("plain", || {
                     black_box(plain::judge::judge_prepared(
@@ -205,7 +223,7 @@ fn judging_prepared() {
         1,
         vec![
             runner("library", || {
-                black_box(lent::prepare_tunnel(black_box(&table), client(9), Some(4)));
+                black_box(ffi::prepare(black_box(&table), 4, client(9).value, 1, 4));
             }),
             runner("plain", || {
                 black_box(plain::judge::prepare_tunnel(
@@ -232,7 +250,8 @@ fn modem_events() {
         Event::Tick,
         Event::Enable,
         Event::Hunt,
-    ];
+    ]
+    .map(Event::numbers);
     let theirs = [
         Plain::Locked,
         Plain::TableAccepted([2, 600, 300, 1800]),
@@ -254,9 +273,9 @@ fn modem_events() {
         ours.len(),
         vec![
             runner("library", || {
-                for event in ours {
+                for (event, values) in ours {
                     c1 = c1.wrapping_add(7);
-                    black_box(lent::on_event(&mut m1, c1, black_box(event)).is_ok());
+                    black_box(ffi::event(&mut m1, c1, black_box(event), values));
                 }
             }),
             runner("plain", || {
@@ -277,7 +296,7 @@ fn listing() {
         1,
         vec![
             runner("library", || {
-                black_box(lent::list_table(7, black_box(&table), &mut o1).is_ok());
+                black_box(ffi::list_table(black_box(&table), 7, &mut o1));
             }),
             runner("plain", || {
                 black_box(plain::list::list_table(7, black_box(&table), &mut o2));
