@@ -272,6 +272,16 @@ pub fn test_element(message: &[u8], at: usize, tally: Tally) -> Tested
             tally,
         },
         Head::Value(len) => {
+            let known = elements::types::find_type(elements::types::TOP_LEVEL, message[at]);
+            let place = known.place;
+            if place == elements::types::UNLISTED {
+                return Tested {
+                    bad: 0,
+                    off: at,
+                    next: at + 2 + len,
+                    tally,
+                };
+            }
             let counts = tally.counts;
             let step = element(message, elements::types::TOP_LEVEL, at, len, &counts);
             let list = step.list;

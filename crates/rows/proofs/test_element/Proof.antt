@@ -1,5 +1,5 @@
--- `rows::test_element` gives `testedAt`: one return for each answer of the head, and for a whole head one where the element is counted
--- and one where it is not.
+-- `rows::test_element` gives `testedAt`: one return for each answer of the head; for a whole head one where the type is not listed, one
+-- where the element is counted and one where it is not.
 -- Trusts: nothing.
 use borrow.Author.Needs.{needs}
 use mathlib.Core.Path.{_≡_, refl, sym, _∙_}
@@ -7,7 +7,7 @@ use native.Mathlib.Omega.{arith}
 use lib.ListN.{length}
 use lib.Seq.{set-out}
 use Rattle.elements.proofs.Laws.{headAt-fits}
-use Rattle.rows.proofs.Ways.{top-ends, top-bad, top-goes}
+use Rattle.rows.proofs.Ways.{elem-unlisted, top-ends, top-bad, top-goes}
 use Rattle.rows.proofs.test_element.Statement.{statement}
 use Rattle.rows.proofs.test_element.Tie as tie
 
@@ -19,13 +19,18 @@ test-element-spec =
     (λ c. search needs)
     (λ c. search needs)
     (λ c. search needs)
-    (λ c κs. let fits = headAt-fits _ _ _ (sym (c .before .before .before .before .before .read-head .ensures) ∙ c .before .before .before .len .given .1) in fits .1)
+    (λ c. let fits = headAt-fits _ _ _ (sym (c .before .before .before .before .read-head .ensures) ∙ c .before .before .len .given .1) in omega (arith, fits .1))
+    (λ c κs. search needs)
+    (λ c. let fits = headAt-fits _ _ _ (sym (c .before .before .before .before .before .before .read-head .ensures) ∙ c .before .before .before .before .len .given .1) in omega (arith, fits .1, c .before .before .before .before .before .before .before .before .fits))
+    (λ c. let fits = headAt-fits _ _ _ (sym (c .before .before .before .before .before .before .read-head .ensures) ∙ c .before .before .before .before .len .given .1) in omega (arith, fits .1, c .before .before .before .before .before .before .before .before .fits))
+    (λ c. let eight : length (c .before .before .before .before .before .before .before .before .args .tally .counts) ≡ 8 = search needs in top-goes _ _ _ (c .before .before .before .before .before .before .read-head .ensures) (c .before .before .before .before .len .given .1) (elem-unlisted _ _ _ _ _ (c .before .find-type .ensures) (c .if1 .taken)) (sym (set-out (c .before .before .before .before .before .before .before .before .args .tally .counts) 8 0 (omega (arith, eight)))))
+    (λ c κs. let fits = headAt-fits _ _ _ (sym (c .before .before .before .before .before .before .before .before .read-head .ensures) ∙ c .before .before .before .before .before .before .len .given .1) in fits .1)
     (λ c. search needs)
-    (λ c. let fits = headAt-fits _ _ _ (sym (c .before .before .before .before .before .before .before .read-head .ensures) ∙ c .before .before .before .before .before .len .given .1) in omega (arith, fits .1, c .before .before .before .before .before .before .before .before .before .fits))
-    (λ c. let fits = headAt-fits _ _ _ (sym (c .before .before .before .before .before .before .before .read-head .ensures) ∙ c .before .before .before .before .before .len .given .1) in omega (arith, fits .1, c .before .before .before .before .before .before .before .before .before .fits))
-    (λ c. top-goes _ _ _ (c .before .before .before .before .before .before .before .read-head .ensures) (c .before .before .before .before .before .len .given .1) (c .before .element .ensures) refl)
-    (λ c. let fits = headAt-fits _ _ _ (sym (c .before .before .before .before .before .before .before .read-head .ensures) ∙ c .before .before .before .before .before .len .given .1) in omega (arith, fits .1, c .before .before .before .before .before .before .before .before .before .fits))
-    (λ c. let fits = headAt-fits _ _ _ (sym (c .before .before .before .before .before .before .before .read-head .ensures) ∙ c .before .before .before .before .before .len .given .1) in omega (arith, fits .1, c .before .before .before .before .before .before .before .before .before .fits))
+    (λ c. let fits = headAt-fits _ _ _ (sym (c .before .before .before .before .before .before .before .before .before .before .read-head .ensures) ∙ c .before .before .before .before .before .before .before .before .len .given .1) in omega (arith, fits .1, c .before .before .before .before .before .before .before .before .before .before .before .before .fits))
+    (λ c. let fits = headAt-fits _ _ _ (sym (c .before .before .before .before .before .before .before .before .before .before .read-head .ensures) ∙ c .before .before .before .before .before .before .before .before .len .given .1) in omega (arith, fits .1, c .before .before .before .before .before .before .before .before .before .before .before .before .fits))
+    (λ c. top-goes _ _ _ (c .before .before .before .before .before .before .before .before .before .before .read-head .ensures) (c .before .before .before .before .before .before .before .before .len .given .1) (c .before .element .ensures) refl)
+    (λ c. let fits = headAt-fits _ _ _ (sym (c .before .before .before .before .before .before .before .before .before .before .read-head .ensures) ∙ c .before .before .before .before .before .before .before .before .len .given .1) in omega (arith, fits .1, c .before .before .before .before .before .before .before .before .before .before .before .before .fits))
+    (λ c. let fits = headAt-fits _ _ _ (sym (c .before .before .before .before .before .before .before .before .before .before .read-head .ensures) ∙ c .before .before .before .before .before .before .before .before .len .given .1) in omega (arith, fits .1, c .before .before .before .before .before .before .before .before .before .before .before .before .fits))
     (λ c. top-ends _ _ _ (c .before .before .read-head .ensures) (c .enum-told .given .1))
     (λ c. top-bad _ _ _ (c .before .before .before .read-head .ensures) (c .before .number .given .1))
-    (λ c. top-goes _ _ _ (c .before .before .before .before .before .before .before .read-head .ensures) (c .before .before .before .before .before .len .given .1) (c .before .element .ensures) (sym (set-out (c .before .before .before .before .before .before .before .before .before .args .tally .counts) _ _ (let eight : length (c .before .before .before .before .before .before .before .before .before .args .tally .counts) ≡ 8 = search needs in omega (arith, eight, c .if1 .left))))))
+    (λ c. let eight : length (c .before .before .before .before .before .before .before .before .before .before .before .before .args .tally .counts) ≡ 8 = search needs in top-goes _ _ _ (c .before .before .before .before .before .before .before .before .before .before .read-head .ensures) (c .before .before .before .before .before .before .before .before .len .given .1) (c .before .element .ensures) (sym (set-out (c .before .before .before .before .before .before .before .before .before .before .before .before .args .tally .counts) _ _ (omega (arith, eight, c .if2 .left))))))
