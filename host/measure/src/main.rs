@@ -238,8 +238,7 @@ fn judging_prepared() {
 
 /// A day of a modem: from Start through every state and back.
 fn modem_events() {
-    use plain::modem::Event as Plain;
-    let ours = [
+    let events = [
         Event::Locked,
         Event::TableAccepted([2, 600, 300, 1800]),
         Event::Packet,
@@ -250,36 +249,24 @@ fn modem_events() {
         Event::Tick,
         Event::Enable,
         Event::Hunt,
-    ]
-    .map(Event::numbers);
-    let theirs = [
-        Plain::Locked,
-        Plain::TableAccepted([2, 600, 300, 1800]),
-        Plain::Packet,
-        Plain::UpstreamUp(4),
-        Plain::Packet,
-        Plain::Tick,
-        Plain::UpstreamLost,
-        Plain::Tick,
-        Plain::Enable,
-        Plain::Hunt,
     ];
+    let numbers = events.map(Event::numbers);
     let (mut m1, mut m2) = (Modem::idle(), Modem::idle());
     let _ = m1.on_event(0, Event::Start { permitted: true });
-    plain::modem::on_event(&mut m2, 0, Plain::Start(true));
+    plain::modem::on_event(&mut m2, 0, Event::Start { permitted: true });
     let (mut c1, mut c2) = (0u32, 0u32);
     report(
         "a modem event",
-        ours.len(),
+        events.len(),
         vec![
             runner("library", || {
-                for (event, values) in ours {
+                for (event, values) in numbers {
                     c1 = c1.wrapping_add(7);
                     black_box(ffi::event(&mut m1, c1, black_box(event), values));
                 }
             }),
             runner("plain", || {
-                for event in theirs {
+                for event in events {
                     c2 = c2.wrapping_add(7);
                     black_box(plain::modem::on_event(&mut m2, c2, black_box(event)));
                 }

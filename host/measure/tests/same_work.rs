@@ -119,23 +119,19 @@ fn judges_alike_with_and_without_a_prepared_tunnel() {
 
 #[test]
 fn steps_the_modem_alike() {
-    use plain::modem::Event as Plain;
-    let pairs = [
-        (Event::Start { permitted: true }, Plain::Start(true)),
-        (Event::Locked, Plain::Locked),
-        (Event::ScanEmpty, Plain::ScanEmpty),
-        (
-            Event::TableAccepted([0, 5, 1, 2]),
-            Plain::TableAccepted([0, 5, 1, 2]),
-        ),
-        (Event::Packet, Plain::Packet),
-        (Event::Tick, Plain::Tick),
-        (Event::Enable, Plain::Enable),
-        (Event::UpstreamUp(4), Plain::UpstreamUp(4)),
-        (Event::UpstreamLost, Plain::UpstreamLost),
-        (Event::Disable, Plain::Disable),
-        (Event::Hunt, Plain::Hunt),
-        (Event::DownstreamLost, Plain::DownstreamLost),
+    let events = [
+        Event::Start { permitted: true },
+        Event::Locked,
+        Event::ScanEmpty,
+        Event::TableAccepted([0, 5, 1, 2]),
+        Event::Packet,
+        Event::Tick,
+        Event::Enable,
+        Event::UpstreamUp(4),
+        Event::UpstreamLost,
+        Event::Disable,
+        Event::Hunt,
+        Event::DownstreamLost,
     ];
     let (mut m1, mut m2) = (Modem::idle(), Modem::idle());
     let (mut clock, mut turn) = (0u32, 12345usize);
@@ -143,10 +139,10 @@ fn steps_the_modem_alike() {
         turn = turn
             .wrapping_mul(6_364_136_223_846_793_005)
             .wrapping_add(1_442_695_040_888_963_407);
-        let (ours, theirs) = pairs[(turn >> 33) % pairs.len()];
+        let event = events[(turn >> 33) % events.len()];
         clock = clock.wrapping_add((turn >> 40) as u32 % 3_000);
-        let answer = m1.on_event(clock, ours).map_or_else(|r| r.number, |()| 0);
-        assert_eq!(answer, plain::modem::on_event(&mut m2, clock, theirs));
+        let answer = m1.on_event(clock, event).map_or_else(|r| r.number, |()| 0);
+        assert_eq!(answer, plain::modem::on_event(&mut m2, clock, event));
         assert_eq!(m1, m2);
     }
 }

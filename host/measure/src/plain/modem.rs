@@ -1,23 +1,7 @@
 //! A modem record and its events.
 
 use dsg::records::{state, Modem};
-
-/// What happens to a modem.
-#[derive(Clone, Copy, Debug)]
-pub enum Event {
-    Start(bool),
-    Locked,
-    ScanEmpty,
-    TableAccepted([u16; 4]),
-    Packet,
-    Tick,
-    Enable,
-    UpstreamUp(u8),
-    UpstreamLost,
-    Disable,
-    Hunt,
-    DownstreamLost,
-}
+use dsg::Event;
 
 fn is_forwarding(m: &Modem) -> bool {
     (state::ONE_WAY..=state::TWO_WAY).contains(&m.state)
@@ -106,7 +90,7 @@ fn tick(m: &mut Modem) {
 
 fn act(m: &mut Modem, event: Event) {
     match event {
-        Event::Start(_) => {}
+        Event::Start { .. } => {}
         Event::Locked if m.state == state::SCANNING => {
             enter(m, state::CHECKING);
             load_receive(m, m.tdsg1);
@@ -160,8 +144,8 @@ fn start(m: &mut Modem, clock: u32, permission: bool) {
 /// One event on a lent record: 0, or 18 where the clock went back.
 #[inline(never)]
 pub fn on_event(m: &mut Modem, clock: u32, event: Event) -> u8 {
-    if let Event::Start(permission) = event {
-        start(m, clock, permission);
+    if let Event::Start { permitted } = event {
+        start(m, clock, permitted);
         return 0;
     }
     if counts_idle(m) {
