@@ -8,7 +8,7 @@
 --   joined slots lens n        the pieces of the first n slots, one behind the other
 --
 -- Slots count from 0 here, so piece s of the document is in slot s - 1. Nothing here knows a body or a record.
--- Tested by: the bench example in proofs/Bench.antt of collector_demands; sixteen pieces in every order against the other program in host/.
+-- Tested by: the bench example in proofs/Bench.antt of collector_demands; up to sixteen pieces in random orders against the other program in host/.
 -- Trusts: nothing.
 use Prim.Native.Nat.{ℕ, zero, suc, _+_, _*_}
 use mathlib.Core.Bool.{Bool, true, cond, _&&_}
