@@ -3,7 +3,7 @@
 -- Demand1: what a refusal leaves, and its numbers.
 -- Demand3: a cut message completes once and is read as the uncut one.
 -- OneAnswer: every contract admits one answer.
--- Starred: the starred examples, one list under one theorem.
+-- Starred: the starred examples, one list under one theorem.      Listed: the example of dcdlist.
 -- Sentences: sentences of document 01 that follow from the definitions.
 -- Controls: wrong programs refuted.
 pub mod Contract
@@ -13,5 +13,6 @@ pub mod Demand2
 pub mod Demand3
 pub mod OneAnswer
 pub mod Starred
+pub mod Listed
 pub mod Sentences
 pub mod Controls
