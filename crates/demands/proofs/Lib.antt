@@ -5,7 +5,7 @@
 -- OneAnswer: every contract admits one answer.
 -- Starred: the starred examples, one list under one theorem.      Listed: the example of dcdlist.
 -- Sentences: sentences of document 01 that follow from the definitions.
--- Controls: wrong programs refuted.
+-- Silence: after Disable the transmitter stays off.      Controls: wrong programs refuted.
 pub mod Contract
 pub mod Parts
 pub mod Demand1
@@ -15,4 +15,5 @@ pub mod OneAnswer
 pub mod Starred
 pub mod Listed
 pub mod Sentences
+pub mod Silence
 pub mod Controls
