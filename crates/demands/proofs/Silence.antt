@@ -1,5 +1,5 @@
 -- Silence: after a Disable that is done the transmitter stays off, whatever happens until the next Start or Enable: no Tick with an ended
--- Tdsg3, no lost or found upstream and no table turns it on (document 01, "Modem record" and the mistakes that it names).
+-- Tdsg3, no lost or found upstream and no table turns it on (document 01, "Modem record" and "Easy errors here").
 --
 --   Happened, allows    an event and its clock; whether it is a Start or an Enable
 --   after m h           the record after the events of h, in their order
