@@ -8,9 +8,9 @@ ghost use Rattle.dsg.specs.Events.{eventStepped};
 use modem::Modem;
 
 // The number that an event is answered, 0 or the refusal, and the record after it.
-struct EventStepped {
-    number: u32,
-    modem: Modem,
+pub struct EventStepped {
+    pub number: u32,
+    pub modem: Modem,
 }
 
 // One event for a record by value.

@@ -7,7 +7,7 @@
 // Every function takes any record, any numbers and any bytes, refuses by number, and after a refusal
 // leaves what was lent as it was. A record behind a reference is copied whole, one function by value is
 // called, and its record is stored whole; of a prepared tunnel the arrays are lent on instead.
-mod events;
-mod frames;
-mod pieces;
-mod tables;
+pub mod events;
+pub mod frames;
+pub mod pieces;
+pub mod tables;

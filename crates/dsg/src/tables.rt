@@ -15,9 +15,9 @@ pub struct ReadAnswer {
 }
 
 // An answer, and the table after it.
-struct ReadStepped {
-    answer: ReadAnswer,
-    table: Table,
+pub struct ReadStepped {
+    pub answer: ReadAnswer,
+    pub table: Table,
 }
 
 // The numbers of a verdict on a message.
