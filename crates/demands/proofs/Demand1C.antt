@@ -39,10 +39,10 @@ use Rattle.tunnel.specs.declared.Verdict.the-variants as verdict
 use Rattle.tunnel.specs.Judge.{verdictOf}
 use Rattle.tunnel.specs.Prepared.{preparedVerdict}
 use Rattle.modem.specs.declared.Modem.{Modem}
-use Rattle.dsg.specs.Bodies.{completeOf, collectedOf, CollectAfter, collectAfter, receivedOf, ReceiveAfter, receiveAfter}
-use Rattle.dsg.specs.Tables.{readStepped, listedAs, listingAs}
-use Rattle.dsg.specs.Frames.{clientOf, ucidOf, choiceFor, verdictAs, verdictFor}
-use Rattle.dsg.specs.Events.{eventStepped}
+use Rattle.dsg_pieces.specs.Bodies.{completeOf, collectedOf, CollectAfter, collectAfter, receivedOf, ReceiveAfter, receiveAfter}
+use Rattle.dsg_tables.specs.Tables.{readStepped, listedAs, listingAs}
+use Rattle.dsg_frames.specs.Frames.{clientOf, ucidOf, choiceFor, verdictAs, verdictFor}
+use Rattle.dsg_events.specs.Events.{eventStepped}
 use Rattle.demands.proofs.Demand1.{collectStep-refused, readTable-refused, listing-refused}
 use Rattle.demands.proofs.Demand1Receive.{receiveStep-refused, receiveStep-message, messageAfter}
 use Rattle.demands.proofs.Demand1Frames.{choiceOf-refused, verdictOf-refused, preparedVerdict-refused, numberedStep-refused}

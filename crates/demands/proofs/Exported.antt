@@ -14,12 +14,12 @@ use Rattle.table.specs.Table.{emptyTable}
 use Rattle.collector.specs.Step.{emptyCollection}
 use Rattle.tunnel.specs.Prepared.{preparedTunnel, preparedVerdict}
 use Rattle.modem.specs.Record.{transmits, forwards, emptyModem}
-use Rattle.dsg.specs.Bodies.{CollectAfter, collectAfter, ReceiveAfter, receiveAfter}
-use Rattle.dsg.specs.declared.tables.ReadStepped.{ReadStepped}
-use Rattle.dsg.specs.Tables.{readStepped, ListAfter, listAfter, bodyAfter}
-use Rattle.dsg.specs.Frames.{clientOf, ucidOf, choiceFor, verdictAs, verdictFor}
-use Rattle.dsg.specs.declared.events.EventStepped.{EventStepped}
-use Rattle.dsg.specs.Events.{eventStepped}
+use Rattle.dsg_pieces.specs.Bodies.{CollectAfter, collectAfter, ReceiveAfter, receiveAfter}
+use Rattle.dsg_tables.specs.declared.ReadStepped.{ReadStepped}
+use Rattle.dsg_tables.specs.Tables.{readStepped, ListAfter, listAfter, bodyAfter}
+use Rattle.dsg_frames.specs.Frames.{clientOf, ucidOf, choiceFor, verdictAs, verdictFor}
+use Rattle.dsg_events.specs.declared.EventStepped.{EventStepped}
+use Rattle.dsg_events.specs.Events.{eventStepped}
 use Rattle.dsg.proofs.pieces.dsg_collect as dsg_collect
 use Rattle.dsg.proofs.pieces.dsg_receive as dsg_receive
 use Rattle.dsg.proofs.pieces.dsg_empty_collection.Reads as dsg_empty_collection

@@ -2,7 +2,7 @@
 -- Parts: the contracts of the lower crates.      Demand2: those of the entries that demand 2 names.      Exported: those of the C interface.
 -- Demand1: what a refusal leaves, and its numbers; with Demand1Receive, Demand1Frames and, as a C host sees it, Demand1C.
 -- Demand3: a cut message completes once and is read as the uncut one.
--- OneAnswer, OneAnswerParts, OneAnswerC: every contract admits one answer.
+-- OneAnswer, OneAnswerParts, OneAnswerC: every contract admits one answer.      Values: both, of the functions under the C interface.
 -- Starred: the starred examples, one list under one theorem.
 -- Sentences: sentences of document 01 that follow from the definitions.
 -- Controls: wrong programs refuted.
@@ -14,6 +14,7 @@ pub mod Demand1Frames
 pub mod Demand1C
 pub mod Demand2
 pub mod Demand3
+pub mod Values
 pub mod Exported
 pub mod OneAnswer
 pub mod OneAnswerParts

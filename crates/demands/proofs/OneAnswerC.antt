@@ -7,10 +7,10 @@ use contract.Lifetimes.{Lfts}
 use denote.Ref.{now}
 use Rattle.demands.proofs.Contract.{One, WalkedOne, only, only-walked, answer}
 use Rattle.demands.proofs.Exported as exported
-use Rattle.dsg.specs.Bodies.{CollectAfter, ReceiveAfter}
-use Rattle.dsg.specs.declared.tables.ReadStepped.{ReadStepped}
-use Rattle.dsg.specs.Tables.{ListAfter}
-use Rattle.dsg.specs.declared.events.EventStepped.{EventStepped}
+use Rattle.dsg_pieces.specs.Bodies.{CollectAfter, ReceiveAfter}
+use Rattle.dsg_tables.specs.declared.ReadStepped.{ReadStepped}
+use Rattle.dsg_tables.specs.Tables.{ListAfter}
+use Rattle.dsg_events.specs.declared.EventStepped.{EventStepped}
 use Rattle.dsg.proofs.pieces.dsg_collect as dsg_collect
 use Rattle.dsg.proofs.pieces.dsg_receive as dsg_receive
 use Rattle.dsg.proofs.pieces.dsg_empty_collection.Reads as dsg_empty_collection
