@@ -2,7 +2,8 @@
  * dsg.h: the DSG receiver (ITU-T J.128, advanced mode) for a host in C99 or C++11.
  *
  * The functions are proved: each does, for every input, what its definition says. A definition is named with each
- * function below and stands in crates/NAME/specs; dsg's own, in crates/dsg/specs, say how answers become numbers.
+ * function below and stands in crates/NAME/specs; those of dsg_pieces, dsg_tables, dsg_frames and dsg_events say how
+ * answers become numbers.
  * No function allocates, keeps a pointer, has state of its own, reads a clock or calls back. So they may run in
  * several threads at once, as long as no two calls are lent the same record or buffer.
  *
@@ -224,7 +225,7 @@ struct dsg_collected {
  * Written: the record; of the slots, the bytes of the piece; of the join buffer, the bytes of a message that came in
  *   more pieces than one, at its start. Pass the same record and the same buffers, untouched, each time.
  * Refused (kind 0): all that was lent holds what it held.
- * Definition: collector/specs/Step collectStep; dsg/specs/Bodies collectedOf. */
+ * Definition: collector/specs/Step collectStep; dsg_pieces/specs/Bodies collectedOf. */
 struct dsg_collected dsg_collect(struct dsg_collection *held, uint8_t *slots, size_t slots_length, uint8_t *join,
                                  size_t join_length, const uint8_t *body, size_t body_length);
 
@@ -236,7 +237,7 @@ struct dsg_read_answer {
 /* Reads a whole message.
  * Lent: the table, the message. Written: the table, where the message is accepted; nothing of what it held is kept.
  * Refused (number not 0): the table holds what it held.
- * Definition: reader/specs/Read readTable; dsg/specs/Tables readAnswer. */
+ * Definition: reader/specs/Read readTable; dsg_tables/specs/Tables readAnswer. */
 struct dsg_read_answer dsg_read(struct dsg_table *table, const uint8_t *message, size_t length);
 
 enum dsg_received_kind {
@@ -257,7 +258,7 @@ struct dsg_received {
 /* Takes one body and, where it completes a message, reads that: dsg_collect and then dsg_read.
  * Lent, written: as by these two. A refused body changes nothing; a refused message leaves the table as it was, and the
  *   collection and the buffers with the pieces of that message, so that a repeat is a repeat.
- * Definition: receiver/specs/Receive receiveStep; dsg/specs/Bodies receivedOf. */
+ * Definition: receiver/specs/Receive receiveStep; dsg_pieces/specs/Bodies receivedOf. */
 struct dsg_received dsg_receive(struct dsg_collection *held, struct dsg_table *table, uint8_t *slots,
                                 size_t slots_length, uint8_t *join, size_t join_length, const uint8_t *body,
                                 size_t body_length);
@@ -272,7 +273,7 @@ struct dsg_choice {
 };
 
 /* Chooses the rule for a client. Lent: the table. Nothing is written.
- * Definition: choice/specs/Choose choiceOf; dsg/specs/Frames choiceAs. */
+ * Definition: choice/specs/Choose choiceOf; dsg_frames/specs/Frames choiceAs. */
 struct dsg_choice dsg_choose(const struct dsg_table *table, uint8_t kind, uint64_t value, uint8_t ucid_known,
                              uint8_t ucid);
 
@@ -291,7 +292,7 @@ struct dsg_verdict {
 };
 
 /* Judges a frame for a client. Lent: the table, the frame. Nothing is written.
- * Definition: tunnel/specs/Judge verdictOf; dsg/specs/Frames verdictAs. */
+ * Definition: tunnel/specs/Judge verdictOf; dsg_frames/specs/Frames verdictAs. */
 struct dsg_verdict dsg_judge(const struct dsg_table *table, uint8_t kind, uint64_t value, uint8_t ucid_known,
                              uint8_t ucid, const uint8_t *frame, size_t length);
 
@@ -302,7 +303,7 @@ struct dsg_tunnel dsg_prepare(const struct dsg_table *table, uint8_t kind, uint6
                               uint8_t ucid);
 
 /* Judges a frame with what dsg_prepare gave: the verdict is that of dsg_judge with the same table, client and UCID.
- * Lent: the tunnel, the frame. Nothing is written. Definition: tunnel/specs/Prepared preparedVerdict; dsg/specs/Frames verdictAs. */
+ * Lent: the tunnel, the frame. Nothing is written. Definition: tunnel/specs/Prepared preparedVerdict; dsg_frames/specs/Frames verdictAs. */
 struct dsg_verdict dsg_judge_prepared(const struct dsg_tunnel *tunnel, const uint8_t *frame, size_t length);
 
 /* ---- the modem ---------------------------------------------------------------------------------------------- */
@@ -327,7 +328,7 @@ enum dsg_event_kind {
 
 /* One event at a clock in milliseconds, which runs over its top. Returns 0, or 18 where the clock went back.
  * Lent: the modem. Written: the modem. Refused (18): the modem holds what it held.
- * Definition: modem/specs/Numbers numberedStep; dsg/specs/Events eventStepped. */
+ * Definition: modem/specs/Numbers numberedStep; dsg_events/specs/Events eventStepped. */
 uint32_t dsg_event(struct dsg_modem *modem, uint32_t clock, uint8_t event, uint16_t a, uint16_t b, uint16_t c,
                    uint16_t d);
 
@@ -346,12 +347,12 @@ struct dsg_listed {
 /* The text of a table that came under a change count: the lines that dcdlist writes.
  * Lent: the table, a buffer of DSG_LISTING_BYTES or more. Written: the text, at the buffer's start; no byte behind it.
  * Refused (number not 0): the buffer holds what it held.
- * Definition: listing/specs/Listing listing, listing/specs/Text tableText; dsg/specs/Tables listAfter. */
+ * Definition: listing/specs/Listing listing, listing/specs/Text tableText; dsg_tables/specs/Tables listAfter. */
 struct dsg_listed dsg_list_table(const struct dsg_table *table, uint8_t count, uint8_t *out, size_t out_length);
 
 /* What dcdlist writes for one body, taken with nothing collected: a table, a refusal, or how many pieces it waits for.
  * Lent, written, refused: as dsg_list_table. It takes the most stack: it has two buffers of its own.
- * Definition: listing/specs/Listing listing, bodies/specs/Body bodyText; dsg/specs/Tables bodyAfter. */
+ * Definition: listing/specs/Listing listing, bodies/specs/Body bodyText; dsg_tables/specs/Tables bodyAfter. */
 struct dsg_listed dsg_list_body(const uint8_t *body, size_t body_length, uint8_t *out, size_t out_length);
 
 /* ---- layout ------------------------------------------------------------------------------------------------- */

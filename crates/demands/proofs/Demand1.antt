@@ -1,54 +1,42 @@
--- Demand1: after a refusal what was lent holds what it held, and a refusal has one of document 01's numbers for that entry.
+-- Demand1: after a refusal what was lent holds what it held, and a refusal has one of document 01's numbers for that entry. Here: bodies,
+-- messages and listings.
 --
 --   collectStep-refused    a body: 1 to 5; the record and both buffers are as they were
---   choiceOf-refused       a client: 17
---   verdictOf-refused      a frame: 16 or 17
+--   lentStep-refused       the same with the message lent as a part: no part is lent, and the rest is the whole join buffer
 --   headAt-refused         the head of an element: 6 to 8
+--   testedAt-refused       an element with all that stands in it: 6 to 13, at a byte of the message
 --   readTable-refused      a message: 3 at 0, or 6 to 15 at a byte of the message; the table is the given one
---   steppedModem-refused   an event: 18; the modem record is as it was
 --   listing-refused        a listing: 100, a number of our own; the buffer is as it was
 --
+-- A body that goes all the way is in Demand1Receive; clients, frames and events in Demand1Frames; the numbers as a C host has them in Demand1C.
 -- That every entry takes any input is seen in its signature: no public function has a `requires` (docs/CONTRACTS.md); that it ends is part of
--- `met`. The theorems are about the definitions, which Demand2 and Parts say are what the entries give.
+-- `met`. The theorems are about the definitions, which Demand2, Parts and Exported say are what the entries give.
 -- Trusts: nothing.
 use Prim.Native.Nat.{ℕ, _*_, _-_, _≤_, _<_}
-use mathlib.Core.Path.{_≡_, refl, sym, ap, _∙_}
-use mathlib.Core.Bool.{Bool, true, false, cond, not, _&&_, _||_}
-use mathlib.Core.List.{List, [], _∷_, _++_}
-use mathlib.Core.Logic.{_⊎_, inl, inr}
+use mathlib.Core.Path.{_≡_, refl, ap}
+use mathlib.Core.Bool.{Bool, true, false, cond, _||_}
+use mathlib.Core.List.{List, [], _++_}
+use mathlib.Core.Logic.{_⊎_}
 use native.Mathlib.Omega.{arith}
 use borrow.Author.Tests.{eqb-false}
 use lib.ListN.{length, getD, drop}
 use lib.Dec.{eqb, ltb}
 use Rattle.wire.specs.Bytes.{pasted}
-use Rattle.collector.specs.Answers.{Said, refused, again, waiting, complete}
+use Rattle.collector.specs.Answers.{Said, refused, again, waiting, complete, lentOf}
 use Rattle.collector.specs.Pieces.{emptySlots, joined}
 use Rattle.collector.specs.Step.{numberOf, slotOf, pieceOf, bodyRefusal, refusalOf, relationOf, repeats, baseOf, noted, After, after, finished, accepted, collectStep}
+use Rattle.collector.specs.Lent.{LentAfter, lentStep}
 use Rattle.collector.specs.declared.Collection.{Collection}
-use Rattle.table.specs.declared.Client.{Client}
 use Rattle.table.specs.declared.Table.{Table}
-use Rattle.table.specs.Table.{rulesOf}
-use Rattle.choice.specs.declared.Ucid.{Ucid}
-use Rattle.choice.specs.declared.Choice.{Choice}
-use Rattle.choice.specs.declared.Choice.the-variants as choice
-use Rattle.choice.specs.Choose.{chosenPlace, choiceOf}
-use Rattle.table.specs.Table.{classifiersOf, emptyClassifier}
-use Rattle.choice.specs.Choose.{ruleAt}
-use Rattle.tunnel.specs.declared.Verdict.{Verdict}
-use Rattle.tunnel.specs.declared.Verdict.the-variants as verdict
-use Rattle.tunnel.specs.Judge.{wrongLength, addressAt, matchPlace, ruleVerdict, choiceVerdict, verdictOf}
 use Rattle.elements.specs.Elements.{headAt}
-use Rattle.elements.specs.declared.Head.{Head}
 use Rattle.elements.specs.declared.Head.the-variants as head
 use Rattle.elements.proofs.Laws.{Says, headAt-says}
+use Rattle.rows.specs.declared.Tally.{Tally}
+use Rattle.rows.specs.Rows.{testedAt}
+use Rattle.rows.proofs.Laws.{testedAt-placed}
 use Rattle.reader.specs.Read.{readTable}
 use Rattle.reader.proofs.Laws as laws
 use Rattle.reader.specs.declared.Verdict.the-variants as reading
-use Rattle.modem.specs.declared.Modem.{Modem}
-use Rattle.modem.specs.declared.Event.{Event}
-use Rattle.modem.specs.declared.Answer.the-variants as modem
-use Rattle.modem.specs.Step.{steppedModem, nextModem}
-use Rattle.modem.proofs.LawsSending as sending
 use Rattle.listing.specs.Listing as listed
 use Rattle.listing.specs.Listing.{Listing, listing}
 
@@ -100,42 +88,35 @@ collectStep-refused r slots join body n = go (eqb (refusalOf (length slots) (len
       let some = eqb-false m 0 f in
       (ap (λ k. after (refused k) r slots join) same, omega arith, omega arith)
 
--- ---- choosing
+-- a refused body lends no part, whatever the number of the record
+lent-none : (b : Bool) (n number : ℕ) (body join : List ℕ) → (cond b (lentOf (refused n) number body []) [] ≡ []) × (cond b [] (lentOf (refused n) number [] join) ≡ [])
+unfolding lentOf
+lent-none true n number body join = (refl, refl)
+lent-none false n number body join = (refl, refl)
 
-pub choiceOf-refused : (t : Table) (c : Client) (u : Ucid) (n : ℕ) → choiceOf t c u ≡ choice.Refused n → n ≡ 17
-unfolding choiceOf
-choiceOf-refused t c u n = go (ltb (chosenPlace c u (rulesOf t)) (length (rulesOf t))) where
-  go : (b : Bool) → cond b (choice.Chosen (chosenPlace c u (rulesOf t))) (choice.Refused 17) ≡ choice.Refused n → n ≡ 17
-  go true e = absurd (let z : _≡_ {A = ℕ} 0 1 = cc in omega arith)
-  go false e = cc
-
--- ---- judging
-
-pub verdictOf-refused : (t : Table) (c : Client) (u : Ucid) (frame : List ℕ) (n : ℕ) → verdictOf t c u frame ≡ verdict.Refused n → (n ≡ 16) ⊎ (n ≡ 17)
-unfolding verdictOf choiceVerdict ruleVerdict
-verdictOf-refused t c u frame n = go (wrongLength frame) (choiceOf t c u) refl where
-  chosen : (k : ℕ) → ruleVerdict t (ruleAt t k) frame ≡ verdict.Refused n → ⊥
-  chosen k = among (not (eqb (addressAt frame) (ruleAt t k .tunnel))) (eqb (ruleAt t k .numbercount) 0) (ltb (matchPlace t (ruleAt t k) frame) (length (classifiersOf t))) where
-    among : (x y z : Bool) → cond x verdict.Other (cond y (verdict.Forward 0) (cond z (verdict.Forward (getD (classifiersOf t) (matchPlace t (ruleAt t k) frame) emptyClassifier .number)) verdict.Filtered)) ≡ verdict.Refused n → ⊥
-    among true y z e = let q : _≡_ {A = ℕ} 0 1 = cc in omega arith
-    among false true z e = let q : _≡_ {A = ℕ} 0 1 = cc in omega arith
-    among false false true e = let q : _≡_ {A = ℕ} 0 1 = cc in omega arith
-    among false false false e = let q : _≡_ {A = ℕ} 0 1 = cc in omega arith
-
-  go : (w : Bool) (k : Choice) → choiceOf t c u ≡ k → cond w (verdict.Refused 16) (choiceVerdict t frame k) ≡ verdict.Refused n → (n ≡ 16) ⊎ (n ≡ 17)
-  go true k f e = inl (cc)
-  go false (choice.Refused m) f e = inr (let d : m ≡ 17 = choiceOf-refused t c u m f in cc)
-  go false (choice.Chosen place) f e = absurd (chosen place e)
+pub lentStep-refused : (r : Collection) (slots join body : List ℕ) (n : ℕ) → lentStep r slots join body .answer ≡ refused n
+    → (lentStep r slots join body ≡ record { answer = refused n; held = r; slots = slots; own = []; joined = []; rest = join }) × (1 ≤ n) × (n ≤ 5)
+unfolding lentStep
+lentStep-refused r slots join body n e =
+    let c = collectStep-refused r slots join body n e in
+    let none = lent-none (eqb (r .number) 1) n (r .number) body join in
+    (rw (c .0, none .0, none .1) refl, c .1, c .2)
 
 -- ---- the head of an element
 
 pub headAt-refused : (msg : List ℕ) (at end n : ℕ) → headAt msg at end ≡ head.Refused n → (6 ≤ n) × (n ≤ 8)
 headAt-refused msg at end n e = let h : Says msg at end (head.Refused n) = rw e at (headAt-says msg at end) in (h .0, h .1)
 
--- ---- stepping the modem
+-- ---- an element with all that stands in it
 
-pub steppedModem-refused : (m : Modem) (now : ℕ) (ev : Event) → steppedModem m now ev .answer ≡ modem.ClockBack → nextModem m now ev ≡ m
-steppedModem-refused = sending.steppedModem-refused
+pub testedAt-refused : (msg : List ℕ) (at : ℕ) (t : Tally) → (testedAt msg at t .bad ≡ 0 → ⊥) → (6 ≤ testedAt msg at t .bad) × (testedAt msg at t .bad ≤ 13) × (testedAt msg at t .off < length msg)
+testedAt-refused = testedAt-placed
+
+-- ---- reading a table
+
+pub readTable-refused : (given : Table) (msg : List ℕ) (n off : ℕ) → readTable given msg .verdict ≡ reading.Refused n off
+    → (readTable given msg .table ≡ given) × (((n ≡ 3) × (off ≡ 0)) ⊎ ((6 ≤ n) × (n ≤ 15) × (off < length msg)))
+readTable-refused given msg n off e = laws.readTable-refused given msg e
 
 -- ---- listing
 
@@ -148,9 +129,3 @@ listing-refused text out n = go (ltb (length out) 3755) where
   go : (t : Bool) → listedIf t text out .answer ≡ listed.refused n → (listedIf t text out .out ≡ out) × (n ≡ 100)
   go true e = (refl, cc)
   go false e = absurd (let z : _≡_ {A = ℕ} 0 1 = cc in omega arith)
-
--- ---- reading a table
-
-pub readTable-refused : (given : Table) (msg : List ℕ) (n off : ℕ) → readTable given msg .verdict ≡ reading.Refused n off
-    → (readTable given msg .table ≡ given) × (((n ≡ 3) × (off ≡ 0)) ⊎ ((6 ≤ n) × (n ≤ 15) × (off < length msg)))
-readTable-refused given msg n off e = laws.readTable-refused given msg e

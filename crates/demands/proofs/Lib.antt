@@ -1,17 +1,24 @@
 -- Contract: what it means that a contract gives a definition, and that it admits one answer.
--- Parts: the contracts of the lower crates.      Demand2: those of the entries that demand 2 names.
--- Demand1: what a refusal leaves, and its numbers.
+-- Parts: the contracts of the lower crates.      Demand2: those of the entries that demand 2 names.      Exported: those of the C interface.
+-- Demand1: what a refusal leaves, and its numbers; with Demand1Receive, Demand1Frames and, as a C host sees it, Demand1C.
 -- Demand3: a cut message completes once and is read as the uncut one.
--- OneAnswer: every contract admits one answer.
+-- OneAnswer, OneAnswerParts, OneAnswerC: every contract admits one answer.      Values: both, of the functions under the C interface.
 -- Starred: the starred examples, one list under one theorem.      Listed: the example of dcdlist.
 -- Sentences: sentences of document 01 that follow from the definitions.
 -- Silence: after Disable the transmitter stays off.      Controls: wrong programs refuted.
 pub mod Contract
 pub mod Parts
 pub mod Demand1
+pub mod Demand1Receive
+pub mod Demand1Frames
+pub mod Demand1C
 pub mod Demand2
 pub mod Demand3
+pub mod Values
+pub mod Exported
 pub mod OneAnswer
+pub mod OneAnswerParts
+pub mod OneAnswerC
 pub mod Starred
 pub mod Listed
 pub mod Sentences

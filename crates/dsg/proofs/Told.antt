@@ -16,8 +16,8 @@ use Rattle.collector.specs.Answers.{complete, lentOf}
 use Rattle.tunnel.specs.declared.Verdict.{Verdict}
 use Rattle.tunnel.specs.declared.Verdict.the-variants.{Refused, Other, Forward, Filtered}
 use Rattle.tunnel.specs.Judge.{payloadStart, payloadOf}
-use Rattle.dsg.specs.Bodies.{collectedOf}
-use Rattle.dsg.specs.Frames.{verdictAs}
+use Rattle.dsg_pieces.specs.Bodies.{collectedOf}
+use Rattle.dsg_frames.specs.Frames.{verdictAs}
 
 pub payload-told : (v : Verdict) (frame : List ℕ) → 14 ≤ length frame
     → take (verdictAs v (length frame) .length) (drop (verdictAs v (length frame) .start) frame) ≡ payloadOf v frame

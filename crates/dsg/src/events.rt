@@ -4,26 +4,9 @@
 // arguments; one that names none only moves the clock.
 ghost use mathlib.Core.Path.{_≡_};
 ghost use Rattle.modem.specs.Record.{transmits, forwards, emptyModem};
-ghost use Rattle.dsg.specs.Events.{eventStepped};
+ghost use Rattle.dsg_events.specs.Events.{eventStepped};
+use dsg_events::event_value;
 use modem::Modem;
-
-// The number that an event is answered, 0 or the refusal, and the record after it.
-struct EventStepped {
-    number: u32,
-    modem: Modem,
-}
-
-// One event for a record by value.
-fn event_value(modem: Modem, clock: u32, event: u8, a: u16, b: u16, c: u16, d: u16) -> EventStepped
-    ensures { λ r. ⌜ r ≡ eventStepped modem clock event a b c d ⌝ }
-{
-    let stepped = modem::step_numbered(modem, clock, event, a, b, c, d);
-    let next = stepped.modem;
-    EventStepped {
-        number: stepped.answer as u32,
-        modem: next,
-    }
-}
 
 // One event for a record that the host lends.
 #[no_mangle]

@@ -2,12 +2,13 @@
 //
 // A record is lent by pointer and is one of the lower crates' own `#[repr(C)]` structs; bytes are lent as
 // pointer and length; an answer is a number or a small struct of numbers. An enum cannot cross to C, so
-// each answer has a definition in specs/ that gives its numbers. `include/dsg.h` is the host's side.
+// each answer has a definition in `dsg_pieces`, `dsg_tables`, `dsg_frames` or `dsg_events` that gives its
+// numbers, beside the function by value that is called here. `include/dsg.h` is the host's side.
 //
 // Every function takes any record, any numbers and any bytes, refuses by number, and after a refusal
 // leaves what was lent as it was. A record behind a reference is copied whole, one function by value is
 // called, and its record is stored whole; of a prepared tunnel the arrays are lent on instead.
-mod events;
-mod frames;
-mod pieces;
-mod tables;
+pub mod events;
+pub mod frames;
+pub mod pieces;
+pub mod tables;

@@ -11,17 +11,17 @@ use Rattle.dsg.proofs.Walk.{uint-lawful, u8, u16, u32, RefT, MutRef, pt
 use Rattle.dsg.proofs.Walk.{onEntry, Meets, tripleOf, Contract, Triple, calls-at, ensured, lasts, entered, cited, says, Stays, stay-ref, stay-none}
 use Rattle.dsg.proofs.Walk.{walkOf, AllGo, goes-none, goes-ref, Walks, ends-at, walked, walk-meets, yes}
 use denote.Struct.Laws as LL
-use Rattle.dsg.specs.Events.{eventStepped}
+use Rattle.dsg_events.specs.Events.{eventStepped}
 use Rattle.modem.specs.declared.Modem.{Modem}
 use Rattle.modem.proofs.Modem as D0
 use Rattle.modem.proofs.Modem.Laws as D0′
-use Rattle.dsg.specs.declared.events.EventStepped.{EventStepped}
-use Rattle.dsg.proofs.events.EventStepped as D1
-use Rattle.dsg.proofs.events.EventStepped.Laws as D1′
-use Rattle.dsg.proofs.events.event_value as event-value
-use Rattle.dsg.proofs.events.event_value.Symbol as event-value-def
-use Rattle.dsg.proofs.events.event_value.Symbol.{name as #dsg·events·event-value}
-use Rattle.dsg.proofs.events.event_value.Met as event-value-thm
+use Rattle.dsg_events.specs.declared.EventStepped.{EventStepped}
+use Rattle.dsg_events.proofs.EventStepped as D1
+use Rattle.dsg_events.proofs.EventStepped.Laws as D1′
+use Rattle.dsg_events.proofs.event_value as event-value
+use Rattle.dsg_events.proofs.event_value.Symbol as event-value-def
+use Rattle.dsg_events.proofs.event_value.Symbol.{name as #dsg_events·event-value}
+use Rattle.dsg_events.proofs.event_value.Met as event-value-thm
 use Rattle.dsg.proofs.events.dsg_event.Key.{name as #dsg·events·dsg-event}
 use Rattle.dsg.proofs.events.dsg_event as dsg-event
 use Rattle.dsg.proofs.events.dsg_event.Statement as stated
@@ -75,7 +75,7 @@ module _ {M : Type 1} (𝓤 : URA M) (H : Heap 𝓤) (A : Atoms 𝓤) (W : Given
       fjoin ! $ owned ! u8 (Is u8) (uint-makes 𝓤 H A W w8) p2 _ is-p2 $ fjoin ! $ owned ! u32 (Is u32) (uint-makes 𝓤 H A W w32) p1 _ is-p1 $ fjoin ! $
       owned ! D0.the-row (Is D0.the-row) (LL.makes D0.the-type D0′.the-plain 𝓤 H A) h _ was $ fjoin ! $ nothing ! $ join ! $ frame ! $ done !
 
-  module _ (C : Calls 𝓤 H) (Λ : Loops 𝓤 H) (fm : FmC 𝓤 H (W .laws) C) (known : Triple 𝓤 (C #dsg·events·event-value) (Callee 𝓤 H A at-mem run)) where
+  module _ (C : Calls 𝓤 H) (Λ : Loops 𝓤 H) (fm : FmC 𝓤 H (W .laws) C) (known : Triple 𝓤 (C #dsg_events·event-value) (Callee 𝓤 H A at-mem run)) where
     walk : ent 𝓤 (onEntry 𝓤 H A dsg-event.signature (κ0, tt) (q0, tt) x at) (WpFn 𝓤 H C Λ code.function (vptr b o ∷ vint w32 p1 ∷ vint w8 p2 ∷ vint w16 p3 ∷ vint w16 p4 ∷ vint w16 p5 ∷ vint w16 p6 ∷ []) Post)
     walk =
         qed W ((‵ (flft κ0 q0) ⊛ ‵ ftrue) ∷ ‵ (owns (MutRef (named 0) κ0 D0.the-row ∷ u32 ∷ u8 ∷ u16 ∷ u16 ∷ u16 ∷ u16 ∷ []) x at) ∷ []) ∵
@@ -114,7 +114,7 @@ module _ {M : Type 1} (𝓤 : URA M) (H : Heap 𝓤) (A : Atoms 𝓤) (W : Given
         keep ! (0 ∷ 1 ∷ 2 ∷ 3 ∷ []) $ by ! (exits r eq (LL.owed D1.the-type D1′.the-laws r _ is .0)))))))))))))))))))
 
 module _ {M : Type 1} (𝓤 : URA M) (H : Heap 𝓤) (A : Atoms 𝓤) (W : Given 𝓤 H A) (at-mem : Memory → SProp 𝓤) (run : Routine → Fun 𝓤) where
-  walks : (C : Calls 𝓤 H) (Λ : Loops 𝓤 H) → FmC 𝓤 H (W .laws) C → Triple 𝓤 (C #dsg·events·event-value) (Callee 𝓤 H A at-mem run)
+  walks : (C : Calls 𝓤 H) (Λ : Loops 𝓤 H) → FmC 𝓤 H (W .laws) C → Triple 𝓤 (C #dsg_events·event-value) (Callee 𝓤 H A at-mem run)
       → Walks 𝓤 H A dsg-event.ended stayed (WpFn 𝓤 H C Λ code.function) (dsg-event.clauses 𝓤 H A at-mem run)
   walks C Λ fm known = walked 𝓤 H A dsg-event.ended stayed (dsg-event.clauses 𝓤 H A at-mem run) (WpFn 𝓤 H C Λ code.function)
       (λ κs. (ptr-vals, (uint-vals w32, (uint-vals w8, (uint-vals w16, (uint-vals w16, (uint-vals w16, (uint-vals w16, tt))))))))
@@ -125,7 +125,7 @@ module _ {M : Type 1} (𝓤 : URA M) (H : Heap 𝓤) (A : Atoms 𝓤) (W : Given
   goes = (goes-ref 𝓤 H A W 1 0 tt (plain (λ _. D0.the-row)), (goes-none 𝓤 H A W 1 (λ _. u32) yes (λ κs x f. refl), (goes-none 𝓤 H A W 1 (λ _. u8) yes (λ κs x f. refl), (goes-none 𝓤 H A W 1 (λ _. u16) yes (λ κs x f. refl), (goes-none 𝓤 H A W 1 (λ _. u16) yes (λ κs x f. refl), (goes-none 𝓤 H A W 1 (λ _. u16) yes (λ κs x f. refl), (goes-none 𝓤 H A W 1 (λ _. u16) yes (λ κs x f. refl), tt)))))))
 
 meets : {M : Type 1} (𝓤 : URA M) (H : Heap 𝓤) (A : Atoms 𝓤) → Given 𝓤 H A → (at-mem : Memory → SProp 𝓤) (run : Routine → Fun 𝓤) (𝓣 : Tables 𝓤 H)
-    → Triple 𝓤 (𝓣 .C #dsg·events·event-value) (Callee 𝓤 H A at-mem run)
+    → Triple 𝓤 (𝓣 .C #dsg_events·event-value) (Callee 𝓤 H A at-mem run)
     → Meets 𝓤 H A dsg-event.signature (WpFn 𝓤 H (𝓣 .C) (𝓣 .Λ) code.function) (dsg-event.spec 𝓤 H A at-mem run)
 meets 𝓤 H A W at-mem run 𝓣 known = walk-meets 𝓤 H A dsg-event.ended stayed W (goes 𝓤 H A W at-mem run) (dsg-event.clauses 𝓤 H A at-mem run)
     (WpFn 𝓤 H (𝓣 .C) (𝓣 .Λ) code.function) (WpFn-mono 𝓤 H (W .laws) 𝓣 code.function)
@@ -137,4 +137,4 @@ dsg-event-spec 𝓤 H 𝓜 𝓖 𝓡 =
     entered 𝓤 H (tripleOf 𝓤 H (𝓖 .A) dsg-event.signature (dsg-event.spec 𝓤 H (𝓖 .A) (𝓜 .mem) (𝓡 .run)))
     (tables 𝓤 H 𝓜 𝓡 code.env .C) (tables 𝓤 H 𝓜 𝓡 code.env .Λ) #dsg·events·dsg-event code.function (code.unfolded 𝓤 H 𝓜 𝓡)
     (meets 𝓤 H (𝓖 .A) (givenOf 𝓤 H 𝓜 𝓖) (𝓜 .mem) (𝓡 .run) (tablesOf 𝓤 H 𝓜 (tables 𝓤 H 𝓜 𝓡 code.env))
-    (cited 𝓤 H (Callee 𝓤 H (𝓖 .A) (𝓜 .mem) (𝓡 .run)) 𝓜 𝓡 code.env #dsg·events·event-value event-value-def.routine code.calls-dsg·events·event-value (event-value-thm.met 𝓤 H 𝓜 𝓖 𝓡)))
+    (cited 𝓤 H (Callee 𝓤 H (𝓖 .A) (𝓜 .mem) (𝓡 .run)) 𝓜 𝓡 code.env #dsg_events·event-value event-value-def.routine code.calls-dsg-events·event-value (event-value-thm.met 𝓤 H 𝓜 𝓖 𝓡)))

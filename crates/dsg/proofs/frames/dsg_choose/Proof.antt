@@ -11,17 +11,17 @@ use Rattle.dsg.proofs.Walk.{shuts, owned, peeks, heard, nothing, spelt,
 use Rattle.dsg.proofs.Walk.{cited, says, Stays, stay-none, stay-none-ref, walkOf, AllGo, goes-none, goes-none-ref, Walks, ends-at, walked, walk-meets}
 use Rattle.dsg.proofs.Walk.{yes}
 use denote.Struct.Laws as LL
-use Rattle.dsg.specs.Frames.{choiceFor}
+use Rattle.dsg_frames.specs.Frames.{choiceFor}
 use Rattle.table.specs.declared.Table.{Table}
 use Rattle.table.proofs.Table as D0
 use Rattle.table.proofs.Table.Laws as D0′
-use Rattle.dsg.specs.declared.frames.Choice.{Choice}
-use Rattle.dsg.proofs.frames.Choice as D1
-use Rattle.dsg.proofs.frames.Choice.Laws as D1′
-use Rattle.dsg.proofs.frames.choose_value as choose-value
-use Rattle.dsg.proofs.frames.choose_value.Symbol as choose-value-def
-use Rattle.dsg.proofs.frames.choose_value.Symbol.{name as #dsg·frames·choose-value}
-use Rattle.dsg.proofs.frames.choose_value.Met as choose-value-thm
+use Rattle.dsg_frames.specs.declared.Choice.{Choice}
+use Rattle.dsg_frames.proofs.Choice as D1
+use Rattle.dsg_frames.proofs.Choice.Laws as D1′
+use Rattle.dsg_frames.proofs.choose_value as choose-value
+use Rattle.dsg_frames.proofs.choose_value.Symbol as choose-value-def
+use Rattle.dsg_frames.proofs.choose_value.Symbol.{name as #dsg_frames·choose-value}
+use Rattle.dsg_frames.proofs.choose_value.Met as choose-value-thm
 use Rattle.dsg.proofs.frames.dsg_choose.Key.{name as #dsg·frames·dsg-choose}
 use Rattle.dsg.proofs.frames.dsg_choose as dsg-choose
 use Rattle.dsg.proofs.frames.dsg_choose.Statement as stated
@@ -73,7 +73,7 @@ module _ {M : Type 1} (𝓤 : URA M) (H : Heap 𝓤) (A : Atoms 𝓤) (W : Given
       owned ! u64 (Is u64) (uint-makes 𝓤 H A W w64) p2 _ is-p2 $ fjoin ! $ owned ! u8 (Is u8) (uint-makes 𝓤 H A W w8) p1 _ is-p1 $ fjoin ! $
       owned ! D0.the-row (Is D0.the-row) (LL.makes D0.the-type D0′.the-plain 𝓤 H A) h _ was $ fjoin ! $ nothing ! $ join ! $ frame ! $ done !
 
-  module _ (C : Calls 𝓤 H) (Λ : Loops 𝓤 H) (fm : FmC 𝓤 H (W .laws) C) (known : Triple 𝓤 (C #dsg·frames·choose-value) (Callee 𝓤 H A at-mem run)) where
+  module _ (C : Calls 𝓤 H) (Λ : Loops 𝓤 H) (fm : FmC 𝓤 H (W .laws) C) (known : Triple 𝓤 (C #dsg_frames·choose-value) (Callee 𝓤 H A at-mem run)) where
     walk : ent 𝓤 (onEntry 𝓤 H A dsg-choose.signature (κ0, tt) (q0, tt) x at) (WpFn 𝓤 H C Λ code.function (vptr b o ∷ vint w8 p1 ∷ vint w64 p2 ∷ vint w8 p3 ∷ vint w8 p4 ∷ []) Post)
     walk =
         qed W ((‵ (flft κ0 q0) ⊛ ‵ ftrue) ∷ ‵ (owns (ShrRef (named 0) κ0 D0.the-row ∷ u8 ∷ u64 ∷ u8 ∷ u8 ∷ []) x at) ∷ []) ∵
@@ -104,7 +104,7 @@ module _ {M : Type 1} (𝓤 : URA M) (H : Heap 𝓤) (A : Atoms 𝓤) (W : Given
         keep ! (4 ∷ 3 ∷ 0 ∷ 2 ∷ 1 ∷ []) $ by ! (exits r v eq)))))))))))))))
 
 module _ {M : Type 1} (𝓤 : URA M) (H : Heap 𝓤) (A : Atoms 𝓤) (W : Given 𝓤 H A) (at-mem : Memory → SProp 𝓤) (run : Routine → Fun 𝓤) where
-  walks : (C : Calls 𝓤 H) (Λ : Loops 𝓤 H) → FmC 𝓤 H (W .laws) C → Triple 𝓤 (C #dsg·frames·choose-value) (Callee 𝓤 H A at-mem run)
+  walks : (C : Calls 𝓤 H) (Λ : Loops 𝓤 H) → FmC 𝓤 H (W .laws) C → Triple 𝓤 (C #dsg_frames·choose-value) (Callee 𝓤 H A at-mem run)
       → Walks 𝓤 H A dsg-choose.ended stayed (WpFn 𝓤 H C Λ code.function) (dsg-choose.clauses 𝓤 H A at-mem run)
   walks C Λ fm known = walked 𝓤 H A dsg-choose.ended stayed (dsg-choose.clauses 𝓤 H A at-mem run) (WpFn 𝓤 H C Λ code.function)
       (λ κs. (ptr-vals, (uint-vals w8, (uint-vals w64, (uint-vals w8, (uint-vals w8, tt))))))
@@ -115,7 +115,7 @@ module _ {M : Type 1} (𝓤 : URA M) (H : Heap 𝓤) (A : Atoms 𝓤) (W : Given
   goes = (goes-none-ref 𝓤 H A W 1 (0 ∷ []) tt (plain (λ _. D0.the-row)) yes, (goes-none 𝓤 H A W 1 (λ _. u8) yes (λ κs x f. refl), (goes-none 𝓤 H A W 1 (λ _. u64) yes (λ κs x f. refl), (goes-none 𝓤 H A W 1 (λ _. u8) yes (λ κs x f. refl), (goes-none 𝓤 H A W 1 (λ _. u8) yes (λ κs x f. refl), tt)))))
 
 meets : {M : Type 1} (𝓤 : URA M) (H : Heap 𝓤) (A : Atoms 𝓤) → Given 𝓤 H A → (at-mem : Memory → SProp 𝓤) (run : Routine → Fun 𝓤) (𝓣 : Tables 𝓤 H)
-    → Triple 𝓤 (𝓣 .C #dsg·frames·choose-value) (Callee 𝓤 H A at-mem run)
+    → Triple 𝓤 (𝓣 .C #dsg_frames·choose-value) (Callee 𝓤 H A at-mem run)
     → Meets 𝓤 H A dsg-choose.signature (WpFn 𝓤 H (𝓣 .C) (𝓣 .Λ) code.function) (dsg-choose.spec 𝓤 H A at-mem run)
 meets 𝓤 H A W at-mem run 𝓣 known = walk-meets 𝓤 H A dsg-choose.ended stayed W (goes 𝓤 H A W at-mem run) (dsg-choose.clauses 𝓤 H A at-mem run)
     (WpFn 𝓤 H (𝓣 .C) (𝓣 .Λ) code.function) (WpFn-mono 𝓤 H (W .laws) 𝓣 code.function)
@@ -127,4 +127,4 @@ dsg-choose-spec 𝓤 H 𝓜 𝓖 𝓡 =
     entered 𝓤 H (tripleOf 𝓤 H (𝓖 .A) dsg-choose.signature (dsg-choose.spec 𝓤 H (𝓖 .A) (𝓜 .mem) (𝓡 .run)))
     (tables 𝓤 H 𝓜 𝓡 code.env .C) (tables 𝓤 H 𝓜 𝓡 code.env .Λ) #dsg·frames·dsg-choose code.function (code.unfolded 𝓤 H 𝓜 𝓡)
     (meets 𝓤 H (𝓖 .A) (givenOf 𝓤 H 𝓜 𝓖) (𝓜 .mem) (𝓡 .run) (tablesOf 𝓤 H 𝓜 (tables 𝓤 H 𝓜 𝓡 code.env))
-    (cited 𝓤 H (Callee 𝓤 H (𝓖 .A) (𝓜 .mem) (𝓡 .run)) 𝓜 𝓡 code.env #dsg·frames·choose-value choose-value-def.routine code.calls-dsg·frames·choose-value (choose-value-thm.met 𝓤 H 𝓜 𝓖 𝓡)))
+    (cited 𝓤 H (Callee 𝓤 H (𝓖 .A) (𝓜 .mem) (𝓡 .run)) 𝓜 𝓡 code.env #dsg_frames·choose-value choose-value-def.routine code.calls-dsg-frames·choose-value (choose-value-thm.met 𝓤 H 𝓜 𝓖 𝓡)))

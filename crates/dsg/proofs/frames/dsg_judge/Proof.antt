@@ -12,17 +12,17 @@ use Rattle.dsg.proofs.Walk.{nothing, spelt, onEntry, Meets, tripleOf, C
 use Rattle.dsg.proofs.Walk.{stay-none-ref, stay-none-slice, walkOf, AllGo, goes-none, goes-none-ref, goes-none-slice, Walks, ends-at, walked, walk-meets}
 use Rattle.dsg.proofs.Walk.{yes}
 use denote.Struct.Laws as LL
-use Rattle.dsg.specs.Frames.{verdictFor}
+use Rattle.dsg_frames.specs.Frames.{verdictFor}
 use Rattle.table.specs.declared.Table.{Table}
 use Rattle.table.proofs.Table as D0
 use Rattle.table.proofs.Table.Laws as D0′
-use Rattle.dsg.specs.declared.frames.Verdict.{Verdict}
-use Rattle.dsg.proofs.frames.Verdict as D1
-use Rattle.dsg.proofs.frames.Verdict.Laws as D1′
-use Rattle.dsg.proofs.frames.judge_value as judge-value
-use Rattle.dsg.proofs.frames.judge_value.Symbol as judge-value-def
-use Rattle.dsg.proofs.frames.judge_value.Symbol.{name as #dsg·frames·judge-value}
-use Rattle.dsg.proofs.frames.judge_value.Met as judge-value-thm
+use Rattle.dsg_frames.specs.declared.Verdict.{Verdict}
+use Rattle.dsg_frames.proofs.Verdict as D1
+use Rattle.dsg_frames.proofs.Verdict.Laws as D1′
+use Rattle.dsg_frames.proofs.judge_value as judge-value
+use Rattle.dsg_frames.proofs.judge_value.Symbol as judge-value-def
+use Rattle.dsg_frames.proofs.judge_value.Symbol.{name as #dsg_frames·judge-value}
+use Rattle.dsg_frames.proofs.judge_value.Met as judge-value-thm
 use Rattle.dsg.proofs.frames.dsg_judge.Key.{name as #dsg·frames·dsg-judge}
 use Rattle.dsg.proofs.frames.dsg_judge as dsg-judge
 use Rattle.dsg.proofs.frames.dsg_judge.Statement as stated
@@ -76,7 +76,7 @@ module _ {M : Type 1} (𝓤 : URA M) (H : Heap 𝓤) (A : Atoms 𝓤) (W : Given
       owned ! D0.the-row (Is D0.the-row) (LL.makes D0.the-type D0′.the-plain 𝓤 H A) h _ was $ fjoin ! $ move ! (1 ∷ 0 ∷ []) $ join ! $ frame ! $
       done !
 
-  module _ (C : Calls 𝓤 H) (Λ : Loops 𝓤 H) (fm : FmC 𝓤 H (W .laws) C) (known : Triple 𝓤 (C #dsg·frames·judge-value) (Callee 𝓤 H A at-mem run)) where
+  module _ (C : Calls 𝓤 H) (Λ : Loops 𝓤 H) (fm : FmC 𝓤 H (W .laws) C) (known : Triple 𝓤 (C #dsg_frames·judge-value) (Callee 𝓤 H A at-mem run)) where
     walk : ent 𝓤 (onEntry 𝓤 H A dsg-judge.signature (κ0, (κ1, tt)) (q0, (q1, tt)) x at) (WpFn 𝓤 H C Λ code.function (vptr b o ∷ vint w8 p1 ∷ vint w64 p2 ∷ vint w8 p3 ∷ vint w8 p4 ∷ sliceVal (p5 .ptr) (length (p5 .now)) ∷ []) Post)
     walk =
         qed W ((‵ (flft κ0 q0) ⊛ ‵ (flft κ1 q1) ⊛ ‵ ftrue) ∷ ‵ (owns (ShrRef (named 0) κ0 D0.the-row ∷ u8 ∷ u64 ∷ u8 ∷ u8 ∷ (ShrSlice (named 1) κ1 u8) ∷ []) x at) ∷ []) ∵
@@ -111,7 +111,7 @@ module _ {M : Type 1} (𝓤 : URA M) (H : Heap 𝓤) (A : Atoms 𝓤) (W : Given
         keep ! (6 ∷ 3 ∷ 0 ∷ 2 ∷ 1 ∷ 4 ∷ []) $ by ! (exits r v eq))))))))))))))))
 
 module _ {M : Type 1} (𝓤 : URA M) (H : Heap 𝓤) (A : Atoms 𝓤) (W : Given 𝓤 H A) (at-mem : Memory → SProp 𝓤) (run : Routine → Fun 𝓤) where
-  walks : (C : Calls 𝓤 H) (Λ : Loops 𝓤 H) → FmC 𝓤 H (W .laws) C → Triple 𝓤 (C #dsg·frames·judge-value) (Callee 𝓤 H A at-mem run)
+  walks : (C : Calls 𝓤 H) (Λ : Loops 𝓤 H) → FmC 𝓤 H (W .laws) C → Triple 𝓤 (C #dsg_frames·judge-value) (Callee 𝓤 H A at-mem run)
       → Walks 𝓤 H A dsg-judge.ended stayed (WpFn 𝓤 H C Λ code.function) (dsg-judge.clauses 𝓤 H A at-mem run)
   walks C Λ fm known = walked 𝓤 H A dsg-judge.ended stayed (dsg-judge.clauses 𝓤 H A at-mem run) (WpFn 𝓤 H C Λ code.function)
       (λ κs. (ptr-vals, (uint-vals w8, (uint-vals w64, (uint-vals w8, (uint-vals w8, (slice-vals, tt)))))))
@@ -122,7 +122,7 @@ module _ {M : Type 1} (𝓤 : URA M) (H : Heap 𝓤) (A : Atoms 𝓤) (W : Given
   goes = (goes-none-ref 𝓤 H A W 2 (0 ∷ []) tt (plain (λ _. D0.the-row)) yes, (goes-none 𝓤 H A W 2 (λ _. u8) yes (λ κs x f. refl), (goes-none 𝓤 H A W 2 (λ _. u64) yes (λ κs x f. refl), (goes-none 𝓤 H A W 2 (λ _. u8) yes (λ κs x f. refl), (goes-none 𝓤 H A W 2 (λ _. u8) yes (λ κs x f. refl), (goes-none-slice 𝓤 H A W 2 (1 ∷ []) tt (plain (λ _. u8)) yes, tt))))))
 
 meets : {M : Type 1} (𝓤 : URA M) (H : Heap 𝓤) (A : Atoms 𝓤) → Given 𝓤 H A → (at-mem : Memory → SProp 𝓤) (run : Routine → Fun 𝓤) (𝓣 : Tables 𝓤 H)
-    → Triple 𝓤 (𝓣 .C #dsg·frames·judge-value) (Callee 𝓤 H A at-mem run)
+    → Triple 𝓤 (𝓣 .C #dsg_frames·judge-value) (Callee 𝓤 H A at-mem run)
     → Meets 𝓤 H A dsg-judge.signature (WpFn 𝓤 H (𝓣 .C) (𝓣 .Λ) code.function) (dsg-judge.spec 𝓤 H A at-mem run)
 meets 𝓤 H A W at-mem run 𝓣 known = walk-meets 𝓤 H A dsg-judge.ended stayed W (goes 𝓤 H A W at-mem run) (dsg-judge.clauses 𝓤 H A at-mem run)
     (WpFn 𝓤 H (𝓣 .C) (𝓣 .Λ) code.function) (WpFn-mono 𝓤 H (W .laws) 𝓣 code.function)
@@ -134,4 +134,4 @@ dsg-judge-spec 𝓤 H 𝓜 𝓖 𝓡 =
     entered 𝓤 H (tripleOf 𝓤 H (𝓖 .A) dsg-judge.signature (dsg-judge.spec 𝓤 H (𝓖 .A) (𝓜 .mem) (𝓡 .run)))
     (tables 𝓤 H 𝓜 𝓡 code.env .C) (tables 𝓤 H 𝓜 𝓡 code.env .Λ) #dsg·frames·dsg-judge code.function (code.unfolded 𝓤 H 𝓜 𝓡)
     (meets 𝓤 H (𝓖 .A) (givenOf 𝓤 H 𝓜 𝓖) (𝓜 .mem) (𝓡 .run) (tablesOf 𝓤 H 𝓜 (tables 𝓤 H 𝓜 𝓡 code.env))
-    (cited 𝓤 H (Callee 𝓤 H (𝓖 .A) (𝓜 .mem) (𝓡 .run)) 𝓜 𝓡 code.env #dsg·frames·judge-value judge-value-def.routine code.calls-dsg·frames·judge-value (judge-value-thm.met 𝓤 H 𝓜 𝓖 𝓡)))
+    (cited 𝓤 H (Callee 𝓤 H (𝓖 .A) (𝓜 .mem) (𝓡 .run)) 𝓜 𝓡 code.env #dsg_frames·judge-value judge-value-def.routine code.calls-dsg-frames·judge-value (judge-value-thm.met 𝓤 H 𝓜 𝓖 𝓡)))

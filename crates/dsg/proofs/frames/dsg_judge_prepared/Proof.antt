@@ -18,17 +18,17 @@ use Prim.Native.Nat.{_+_}
 use mathlib.Core.List.{map}
 use denote.Struct.Laws as LL
 use Rattle.tunnel.specs.Prepared.{lentTunnel, preparedVerdict}
-use Rattle.dsg.specs.Frames.{verdictAs}
+use Rattle.dsg_frames.specs.Frames.{verdictAs}
 use Rattle.tunnel.specs.declared.Tunnel.{Tunnel}
 use Rattle.tunnel.proofs.Tunnel as D0
 use Rattle.tunnel.proofs.Tunnel.Laws as D0′
-use Rattle.dsg.specs.declared.frames.Verdict.{Verdict}
-use Rattle.dsg.proofs.frames.Verdict as D1
-use Rattle.dsg.proofs.frames.Verdict.Laws as D1′
-use Rattle.dsg.proofs.frames.judge_parts as judge-parts
-use Rattle.dsg.proofs.frames.judge_parts.Symbol as judge-parts-def
-use Rattle.dsg.proofs.frames.judge_parts.Symbol.{name as #dsg·frames·judge-parts}
-use Rattle.dsg.proofs.frames.judge_parts.Met as judge-parts-thm
+use Rattle.dsg_frames.specs.declared.Verdict.{Verdict}
+use Rattle.dsg_frames.proofs.Verdict as D1
+use Rattle.dsg_frames.proofs.Verdict.Laws as D1′
+use Rattle.dsg_frames.proofs.judge_parts as judge-parts
+use Rattle.dsg_frames.proofs.judge_parts.Symbol as judge-parts-def
+use Rattle.dsg_frames.proofs.judge_parts.Symbol.{name as #dsg_frames·judge-parts}
+use Rattle.dsg_frames.proofs.judge_parts.Met as judge-parts-thm
 use Rattle.dsg.proofs.frames.dsg_judge_prepared.Key.{name as #dsg·frames·dsg-judge-prepared}
 use Rattle.dsg.proofs.frames.dsg_judge_prepared as dsg-judge-prepared
 use Rattle.dsg.proofs.frames.dsg_judge_prepared.Statement as stated
@@ -91,7 +91,7 @@ module _ {M : Type 1} (𝓤 : URA M) (H : Heap 𝓤) (A : Atoms 𝓤) (W : Given
       owned ! u8 (Is u8) (uint-makes 𝓤 H A W w8) (h .mode) _ (LL.owed D0.the-type D0′.the-laws h _ was .1 .0) $ fjoin ! $ move ! (1 ∷ 0 ∷ []) $
       join ! $ frame ! $ done !
 
-  module _ (C : Calls 𝓤 H) (Λ : Loops 𝓤 H) (fm : FmC 𝓤 H (W .laws) C) (known : Triple 𝓤 (C #dsg·frames·judge-parts) (Callee 𝓤 H A at-mem run)) where
+  module _ (C : Calls 𝓤 H) (Λ : Loops 𝓤 H) (fm : FmC 𝓤 H (W .laws) C) (known : Triple 𝓤 (C #dsg_frames·judge-parts) (Callee 𝓤 H A at-mem run)) where
     walk : ent 𝓤 (onEntry 𝓤 H A dsg-judge-prepared.signature (κ0, (κ1, tt)) (q0, (q1, tt)) x at) (WpFn 𝓤 H C Λ code.function (vptr b o ∷ sliceVal (p .ptr) (length (p .now)) ∷ []) Post)
     walk =
         qed W ((‵ (flft κ0 q0) ⊛ ‵ (flft κ1 q1) ⊛ ‵ ftrue) ∷ ‵ (owns (ShrRef (named 0) κ0 D0.the-row ∷ (ShrSlice (named 1) κ1 u8) ∷ []) x at) ∷ []) ∵
@@ -170,7 +170,7 @@ module _ {M : Type 1} (𝓤 : URA M) (H : Heap 𝓤) (A : Atoms 𝓤) (W : Given
         keep ! (5 ∷ 2 ∷ 0 ∷ 1 ∷ 3 ∷ []) $ by ! (exits r v (same r eq)))))))))))))))))))))))))))))
 
 module _ {M : Type 1} (𝓤 : URA M) (H : Heap 𝓤) (A : Atoms 𝓤) (W : Given 𝓤 H A) (at-mem : Memory → SProp 𝓤) (run : Routine → Fun 𝓤) where
-  walks : (C : Calls 𝓤 H) (Λ : Loops 𝓤 H) → FmC 𝓤 H (W .laws) C → Triple 𝓤 (C #dsg·frames·judge-parts) (Callee 𝓤 H A at-mem run)
+  walks : (C : Calls 𝓤 H) (Λ : Loops 𝓤 H) → FmC 𝓤 H (W .laws) C → Triple 𝓤 (C #dsg_frames·judge-parts) (Callee 𝓤 H A at-mem run)
       → Walks 𝓤 H A dsg-judge-prepared.ended stayed (WpFn 𝓤 H C Λ code.function) (dsg-judge-prepared.clauses 𝓤 H A at-mem run)
   walks C Λ fm known = walked 𝓤 H A dsg-judge-prepared.ended stayed (dsg-judge-prepared.clauses 𝓤 H A at-mem run) (WpFn 𝓤 H C Λ code.function)
       (λ κs. (ptr-vals, (slice-vals, tt))) (λ κs. (shr-tells (named 0) (κs .0) D0.the-row, (shr-slice-tells (named 1) (κs .1 .0) u8, tt)))
@@ -180,7 +180,7 @@ module _ {M : Type 1} (𝓤 : URA M) (H : Heap 𝓤) (A : Atoms 𝓤) (W : Given
   goes = (goes-none-ref 𝓤 H A W 2 (0 ∷ []) tt (plain (λ _. D0.the-row)) yes, (goes-none-slice 𝓤 H A W 2 (1 ∷ []) tt (plain (λ _. u8)) yes, tt))
 
 meets : {M : Type 1} (𝓤 : URA M) (H : Heap 𝓤) (A : Atoms 𝓤) → Given 𝓤 H A → (at-mem : Memory → SProp 𝓤) (run : Routine → Fun 𝓤) (𝓣 : Tables 𝓤 H)
-    → Triple 𝓤 (𝓣 .C #dsg·frames·judge-parts) (Callee 𝓤 H A at-mem run)
+    → Triple 𝓤 (𝓣 .C #dsg_frames·judge-parts) (Callee 𝓤 H A at-mem run)
     → Meets 𝓤 H A dsg-judge-prepared.signature (WpFn 𝓤 H (𝓣 .C) (𝓣 .Λ) code.function) (dsg-judge-prepared.spec 𝓤 H A at-mem run)
 meets 𝓤 H A W at-mem run 𝓣 known = walk-meets 𝓤 H A dsg-judge-prepared.ended stayed W (goes 𝓤 H A W at-mem run) (dsg-judge-prepared.clauses 𝓤 H A at-mem run)
     (WpFn 𝓤 H (𝓣 .C) (𝓣 .Λ) code.function) (WpFn-mono 𝓤 H (W .laws) 𝓣 code.function)
@@ -192,4 +192,4 @@ dsg-judge-prepared-spec 𝓤 H 𝓜 𝓖 𝓡 =
     entered 𝓤 H (tripleOf 𝓤 H (𝓖 .A) dsg-judge-prepared.signature (dsg-judge-prepared.spec 𝓤 H (𝓖 .A) (𝓜 .mem) (𝓡 .run)))
     (tables 𝓤 H 𝓜 𝓡 code.env .C) (tables 𝓤 H 𝓜 𝓡 code.env .Λ) #dsg·frames·dsg-judge-prepared code.function (code.unfolded 𝓤 H 𝓜 𝓡)
     (meets 𝓤 H (𝓖 .A) (givenOf 𝓤 H 𝓜 𝓖) (𝓜 .mem) (𝓡 .run) (tablesOf 𝓤 H 𝓜 (tables 𝓤 H 𝓜 𝓡 code.env))
-    (cited 𝓤 H (Callee 𝓤 H (𝓖 .A) (𝓜 .mem) (𝓡 .run)) 𝓜 𝓡 code.env #dsg·frames·judge-parts judge-parts-def.routine code.calls-dsg·frames·judge-parts (judge-parts-thm.met 𝓤 H 𝓜 𝓖 𝓡)))
+    (cited 𝓤 H (Callee 𝓤 H (𝓖 .A) (𝓜 .mem) (𝓡 .run)) 𝓜 𝓡 code.env #dsg_frames·judge-parts judge-parts-def.routine code.calls-dsg-frames·judge-parts (judge-parts-thm.met 𝓤 H 𝓜 𝓖 𝓡)))

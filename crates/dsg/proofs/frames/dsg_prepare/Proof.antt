@@ -11,8 +11,8 @@ use Rattle.dsg.proofs.Walk.{shuts, owned, peeks, heard, nothing, spelt,
 use Rattle.dsg.proofs.Walk.{cited, says, Stays, stay-none, stay-none-ref, walkOf, AllGo, goes-none, goes-none-ref, Walks, ends-at, walked, walk-meets}
 use Rattle.dsg.proofs.Walk.{yes}
 use denote.Struct.Laws as LL
-use Rattle.dsg.specs.Frames.{clientOf}
-use Rattle.dsg.specs.Frames.{ucidOf}
+use Rattle.dsg_frames.specs.Frames.{clientOf}
+use Rattle.dsg_frames.specs.Frames.{ucidOf}
 use Rattle.tunnel.specs.Prepared.{preparedTunnel}
 use Rattle.table.specs.declared.Table.{Table}
 use Rattle.table.proofs.Table as D0
@@ -20,10 +20,10 @@ use Rattle.table.proofs.Table.Laws as D0′
 use Rattle.tunnel.specs.declared.Tunnel.{Tunnel}
 use Rattle.tunnel.proofs.Tunnel as D1
 use Rattle.tunnel.proofs.Tunnel.Laws as D1′
-use Rattle.dsg.proofs.frames.prepare_value as prepare-value
-use Rattle.dsg.proofs.frames.prepare_value.Symbol as prepare-value-def
-use Rattle.dsg.proofs.frames.prepare_value.Symbol.{name as #dsg·frames·prepare-value}
-use Rattle.dsg.proofs.frames.prepare_value.Met as prepare-value-thm
+use Rattle.dsg_frames.proofs.prepare_value as prepare-value
+use Rattle.dsg_frames.proofs.prepare_value.Symbol as prepare-value-def
+use Rattle.dsg_frames.proofs.prepare_value.Symbol.{name as #dsg_frames·prepare-value}
+use Rattle.dsg_frames.proofs.prepare_value.Met as prepare-value-thm
 use Rattle.dsg.proofs.frames.dsg_prepare.Key.{name as #dsg·frames·dsg-prepare}
 use Rattle.dsg.proofs.frames.dsg_prepare as dsg-prepare
 use Rattle.dsg.proofs.frames.dsg_prepare.Statement as stated
@@ -75,7 +75,7 @@ module _ {M : Type 1} (𝓤 : URA M) (H : Heap 𝓤) (A : Atoms 𝓤) (W : Given
       owned ! u64 (Is u64) (uint-makes 𝓤 H A W w64) p2 _ is-p2 $ fjoin ! $ owned ! u8 (Is u8) (uint-makes 𝓤 H A W w8) p1 _ is-p1 $ fjoin ! $
       owned ! D0.the-row (Is D0.the-row) (LL.makes D0.the-type D0′.the-plain 𝓤 H A) h _ was $ fjoin ! $ nothing ! $ join ! $ frame ! $ done !
 
-  module _ (C : Calls 𝓤 H) (Λ : Loops 𝓤 H) (fm : FmC 𝓤 H (W .laws) C) (known : Triple 𝓤 (C #dsg·frames·prepare-value) (Callee 𝓤 H A at-mem run)) where
+  module _ (C : Calls 𝓤 H) (Λ : Loops 𝓤 H) (fm : FmC 𝓤 H (W .laws) C) (known : Triple 𝓤 (C #dsg_frames·prepare-value) (Callee 𝓤 H A at-mem run)) where
     walk : ent 𝓤 (onEntry 𝓤 H A dsg-prepare.signature (κ0, tt) (q0, tt) x at) (WpFn 𝓤 H C Λ code.function (vptr b o ∷ vint w8 p1 ∷ vint w64 p2 ∷ vint w8 p3 ∷ vint w8 p4 ∷ []) Post)
     walk =
         qed W ((‵ (flft κ0 q0) ⊛ ‵ ftrue) ∷ ‵ (owns (ShrRef (named 0) κ0 D0.the-row ∷ u8 ∷ u64 ∷ u8 ∷ u8 ∷ []) x at) ∷ []) ∵
@@ -106,7 +106,7 @@ module _ {M : Type 1} (𝓤 : URA M) (H : Heap 𝓤) (A : Atoms 𝓤) (W : Given
         keep ! (4 ∷ 3 ∷ 0 ∷ 2 ∷ 1 ∷ []) $ by ! (exits r v eq)))))))))))))))
 
 module _ {M : Type 1} (𝓤 : URA M) (H : Heap 𝓤) (A : Atoms 𝓤) (W : Given 𝓤 H A) (at-mem : Memory → SProp 𝓤) (run : Routine → Fun 𝓤) where
-  walks : (C : Calls 𝓤 H) (Λ : Loops 𝓤 H) → FmC 𝓤 H (W .laws) C → Triple 𝓤 (C #dsg·frames·prepare-value) (Callee 𝓤 H A at-mem run)
+  walks : (C : Calls 𝓤 H) (Λ : Loops 𝓤 H) → FmC 𝓤 H (W .laws) C → Triple 𝓤 (C #dsg_frames·prepare-value) (Callee 𝓤 H A at-mem run)
       → Walks 𝓤 H A dsg-prepare.ended stayed (WpFn 𝓤 H C Λ code.function) (dsg-prepare.clauses 𝓤 H A at-mem run)
   walks C Λ fm known = walked 𝓤 H A dsg-prepare.ended stayed (dsg-prepare.clauses 𝓤 H A at-mem run) (WpFn 𝓤 H C Λ code.function)
       (λ κs. (ptr-vals, (uint-vals w8, (uint-vals w64, (uint-vals w8, (uint-vals w8, tt))))))
@@ -117,7 +117,7 @@ module _ {M : Type 1} (𝓤 : URA M) (H : Heap 𝓤) (A : Atoms 𝓤) (W : Given
   goes = (goes-none-ref 𝓤 H A W 1 (0 ∷ []) tt (plain (λ _. D0.the-row)) yes, (goes-none 𝓤 H A W 1 (λ _. u8) yes (λ κs x f. refl), (goes-none 𝓤 H A W 1 (λ _. u64) yes (λ κs x f. refl), (goes-none 𝓤 H A W 1 (λ _. u8) yes (λ κs x f. refl), (goes-none 𝓤 H A W 1 (λ _. u8) yes (λ κs x f. refl), tt)))))
 
 meets : {M : Type 1} (𝓤 : URA M) (H : Heap 𝓤) (A : Atoms 𝓤) → Given 𝓤 H A → (at-mem : Memory → SProp 𝓤) (run : Routine → Fun 𝓤) (𝓣 : Tables 𝓤 H)
-    → Triple 𝓤 (𝓣 .C #dsg·frames·prepare-value) (Callee 𝓤 H A at-mem run)
+    → Triple 𝓤 (𝓣 .C #dsg_frames·prepare-value) (Callee 𝓤 H A at-mem run)
     → Meets 𝓤 H A dsg-prepare.signature (WpFn 𝓤 H (𝓣 .C) (𝓣 .Λ) code.function) (dsg-prepare.spec 𝓤 H A at-mem run)
 meets 𝓤 H A W at-mem run 𝓣 known = walk-meets 𝓤 H A dsg-prepare.ended stayed W (goes 𝓤 H A W at-mem run) (dsg-prepare.clauses 𝓤 H A at-mem run)
     (WpFn 𝓤 H (𝓣 .C) (𝓣 .Λ) code.function) (WpFn-mono 𝓤 H (W .laws) 𝓣 code.function)
@@ -129,4 +129,4 @@ dsg-prepare-spec 𝓤 H 𝓜 𝓖 𝓡 =
     entered 𝓤 H (tripleOf 𝓤 H (𝓖 .A) dsg-prepare.signature (dsg-prepare.spec 𝓤 H (𝓖 .A) (𝓜 .mem) (𝓡 .run)))
     (tables 𝓤 H 𝓜 𝓡 code.env .C) (tables 𝓤 H 𝓜 𝓡 code.env .Λ) #dsg·frames·dsg-prepare code.function (code.unfolded 𝓤 H 𝓜 𝓡)
     (meets 𝓤 H (𝓖 .A) (givenOf 𝓤 H 𝓜 𝓖) (𝓜 .mem) (𝓡 .run) (tablesOf 𝓤 H 𝓜 (tables 𝓤 H 𝓜 𝓡 code.env))
-    (cited 𝓤 H (Callee 𝓤 H (𝓖 .A) (𝓜 .mem) (𝓡 .run)) 𝓜 𝓡 code.env #dsg·frames·prepare-value prepare-value-def.routine code.calls-dsg·frames·prepare-value (prepare-value-thm.met 𝓤 H 𝓜 𝓖 𝓡)))
+    (cited 𝓤 H (Callee 𝓤 H (𝓖 .A) (𝓜 .mem) (𝓡 .run)) 𝓜 𝓡 code.env #dsg_frames·prepare-value prepare-value-def.routine code.calls-dsg-frames·prepare-value (prepare-value-thm.met 𝓤 H 𝓜 𝓖 𝓡)))

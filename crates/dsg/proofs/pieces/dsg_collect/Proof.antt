@@ -12,19 +12,19 @@ use Rattle.dsg.proofs.Walk.{mut-tells, plain, only, opens, closes, owne
 use Rattle.dsg.proofs.Walk.{calls-at, ensured, lasts, entered, cited, says, Stays, stay-ref, stay-none-slice, gave-slice, walkOf, AllGo, goes-none-slice}
 use Rattle.dsg.proofs.Walk.{goes-gave-slice, goes-ref, Walks, ends-at, walked, walk-meets, yes}
 use denote.Struct.Laws as LL
-use Rattle.dsg.specs.Bodies.{collectAfter}
+use Rattle.dsg_pieces.specs.Bodies.{collectAfter}
 use Rattle.collector.specs.declared.Collection.{Collection}
 use Rattle.collector.proofs.Collection as D0
 use Rattle.collector.proofs.Collection.Laws as D0′
-use Rattle.dsg.proofs.pieces.Collected as D1
-use Rattle.dsg.proofs.pieces.Collected.Laws as D1′
-use Rattle.dsg.specs.declared.pieces.CollectStepped.{CollectStepped}
-use Rattle.dsg.proofs.pieces.CollectStepped as D2
-use Rattle.dsg.proofs.pieces.CollectStepped.Laws as D2′
-use Rattle.dsg.proofs.pieces.collect_value as collect-value
-use Rattle.dsg.proofs.pieces.collect_value.Symbol as collect-value-def
-use Rattle.dsg.proofs.pieces.collect_value.Symbol.{name as #dsg·pieces·collect-value}
-use Rattle.dsg.proofs.pieces.collect_value.Met as collect-value-thm
+use Rattle.dsg_pieces.proofs.Collected as D1
+use Rattle.dsg_pieces.proofs.Collected.Laws as D1′
+use Rattle.dsg_pieces.specs.declared.CollectStepped.{CollectStepped}
+use Rattle.dsg_pieces.proofs.CollectStepped as D2
+use Rattle.dsg_pieces.proofs.CollectStepped.Laws as D2′
+use Rattle.dsg_pieces.proofs.collect_value as collect-value
+use Rattle.dsg_pieces.proofs.collect_value.Symbol as collect-value-def
+use Rattle.dsg_pieces.proofs.collect_value.Symbol.{name as #dsg_pieces·collect-value}
+use Rattle.dsg_pieces.proofs.collect_value.Met as collect-value-thm
 use Rattle.dsg.proofs.pieces.dsg_collect.Key.{name as #dsg·pieces·dsg-collect}
 use Rattle.dsg.proofs.pieces.dsg_collect as dsg-collect
 use Rattle.dsg.proofs.pieces.dsg_collect.Statement as stated
@@ -75,7 +75,7 @@ module _ {M : Type 1} (𝓤 : URA M) (H : Heap 𝓤) (A : Atoms 𝓤) (W : Given
       owned ! D0.the-row (Is D0.the-row) (LL.makes D0.the-type D0′.the-plain 𝓤 H A) h _ was $ fjoin ! $ move ! (1 ∷ 0 ∷ []) $ join ! $ frame ! $
       done !
 
-  module _ (C : Calls 𝓤 H) (Λ : Loops 𝓤 H) (fm : FmC 𝓤 H (W .laws) C) (known : Triple 𝓤 (C #dsg·pieces·collect-value) (Callee 𝓤 H A at-mem run)) where
+  module _ (C : Calls 𝓤 H) (Λ : Loops 𝓤 H) (fm : FmC 𝓤 H (W .laws) C) (known : Triple 𝓤 (C #dsg_pieces·collect-value) (Callee 𝓤 H A at-mem run)) where
     walk : ent 𝓤 (onEntry 𝓤 H A dsg-collect.signature (κ0, (κ1, (κ2, (κ3, tt)))) (q0, (q1, (q2, (q3, tt)))) x at) (WpFn 𝓤 H C Λ code.function (vptr b o ∷ sliceVal (p1 .ptr) (length (p1 .now)) ∷ sliceVal (p2 .ptr) (length (p2 .now)) ∷ sliceVal (p3 .ptr) (length (p3 .now)) ∷ []) Post)
     walk =
         qed W ((‵ (flft κ0 q0) ⊛ ‵ (flft κ1 q1) ⊛ ‵ (flft κ2 q2) ⊛ ‵ (flft κ3 q3) ⊛ ‵ ftrue) ∷ ‵ (owns (MutRef (named 0) κ0 D0.the-row ∷ (MutSlice (named 1) κ1 u8) ∷ (MutSlice (named 2) κ2 u8) ∷ (ShrSlice (named 3) κ3 u8) ∷ []) x at) ∷ []) ∵
@@ -122,7 +122,7 @@ module _ {M : Type 1} (𝓤 : URA M) (H : Heap 𝓤) (A : Atoms 𝓤) (W : Given
         by ! (exits r (zs .1 .0) (zs .1 .1 .0) eq (LL.owed D2.the-type D2′.the-laws r _ is .0) e0 e1)))))))))))))))))))))
 
 module _ {M : Type 1} (𝓤 : URA M) (H : Heap 𝓤) (A : Atoms 𝓤) (W : Given 𝓤 H A) (at-mem : Memory → SProp 𝓤) (run : Routine → Fun 𝓤) where
-  walks : (C : Calls 𝓤 H) (Λ : Loops 𝓤 H) → FmC 𝓤 H (W .laws) C → Triple 𝓤 (C #dsg·pieces·collect-value) (Callee 𝓤 H A at-mem run)
+  walks : (C : Calls 𝓤 H) (Λ : Loops 𝓤 H) → FmC 𝓤 H (W .laws) C → Triple 𝓤 (C #dsg_pieces·collect-value) (Callee 𝓤 H A at-mem run)
       → Walks 𝓤 H A dsg-collect.ended stayed (WpFn 𝓤 H C Λ code.function) (dsg-collect.clauses 𝓤 H A at-mem run)
   walks C Λ fm known = walked 𝓤 H A dsg-collect.ended stayed (dsg-collect.clauses 𝓤 H A at-mem run) (WpFn 𝓤 H C Λ code.function)
       (λ κs. (ptr-vals, (slice-vals, (slice-vals, (slice-vals, tt)))))
@@ -133,7 +133,7 @@ module _ {M : Type 1} (𝓤 : URA M) (H : Heap 𝓤) (A : Atoms 𝓤) (W : Given
   goes = (goes-ref 𝓤 H A W 4 0 tt (plain (λ _. D0.the-row)), (goes-gave-slice 𝓤 H A W 4 1 tt (plain (λ _. u8)), (goes-gave-slice 𝓤 H A W 4 2 tt (plain (λ _. u8)), (goes-none-slice 𝓤 H A W 4 (3 ∷ []) tt (plain (λ _. u8)) yes, tt))))
 
 meets : {M : Type 1} (𝓤 : URA M) (H : Heap 𝓤) (A : Atoms 𝓤) → Given 𝓤 H A → (at-mem : Memory → SProp 𝓤) (run : Routine → Fun 𝓤) (𝓣 : Tables 𝓤 H)
-    → Triple 𝓤 (𝓣 .C #dsg·pieces·collect-value) (Callee 𝓤 H A at-mem run)
+    → Triple 𝓤 (𝓣 .C #dsg_pieces·collect-value) (Callee 𝓤 H A at-mem run)
     → Meets 𝓤 H A dsg-collect.signature (WpFn 𝓤 H (𝓣 .C) (𝓣 .Λ) code.function) (dsg-collect.spec 𝓤 H A at-mem run)
 meets 𝓤 H A W at-mem run 𝓣 known = walk-meets 𝓤 H A dsg-collect.ended stayed W (goes 𝓤 H A W at-mem run) (dsg-collect.clauses 𝓤 H A at-mem run)
     (WpFn 𝓤 H (𝓣 .C) (𝓣 .Λ) code.function) (WpFn-mono 𝓤 H (W .laws) 𝓣 code.function)
@@ -145,4 +145,4 @@ dsg-collect-spec 𝓤 H 𝓜 𝓖 𝓡 =
     entered 𝓤 H (tripleOf 𝓤 H (𝓖 .A) dsg-collect.signature (dsg-collect.spec 𝓤 H (𝓖 .A) (𝓜 .mem) (𝓡 .run)))
     (tables 𝓤 H 𝓜 𝓡 code.env .C) (tables 𝓤 H 𝓜 𝓡 code.env .Λ) #dsg·pieces·dsg-collect code.function (code.unfolded 𝓤 H 𝓜 𝓡)
     (meets 𝓤 H (𝓖 .A) (givenOf 𝓤 H 𝓜 𝓖) (𝓜 .mem) (𝓡 .run) (tablesOf 𝓤 H 𝓜 (tables 𝓤 H 𝓜 𝓡 code.env))
-    (cited 𝓤 H (Callee 𝓤 H (𝓖 .A) (𝓜 .mem) (𝓡 .run)) 𝓜 𝓡 code.env #dsg·pieces·collect-value collect-value-def.routine code.calls-dsg·pieces·collect-value (collect-value-thm.met 𝓤 H 𝓜 𝓖 𝓡)))
+    (cited 𝓤 H (Callee 𝓤 H (𝓖 .A) (𝓜 .mem) (𝓡 .run)) 𝓜 𝓡 code.env #dsg_pieces·collect-value collect-value-def.routine code.calls-dsg-pieces·collect-value (collect-value-thm.met 𝓤 H 𝓜 𝓖 𝓡)))

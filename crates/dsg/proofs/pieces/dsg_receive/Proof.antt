@@ -12,22 +12,22 @@ use Rattle.dsg.proofs.Walk.{mut-tells, plain, only, opens, closes, owne
 use Rattle.dsg.proofs.Walk.{calls-at, ensured, lasts, entered, cited, says, Stays, stay-ref, stay-none-slice, gave-slice, walkOf, AllGo, goes-none-slice}
 use Rattle.dsg.proofs.Walk.{goes-gave-slice, goes-ref, Walks, ends-at, walked, walk-meets, yes}
 use denote.Struct.Laws as LL
-use Rattle.dsg.specs.Bodies.{receiveAfter}
+use Rattle.dsg_pieces.specs.Bodies.{receiveAfter}
 use Rattle.collector.specs.declared.Collection.{Collection}
 use Rattle.collector.proofs.Collection as D0
 use Rattle.collector.proofs.Collection.Laws as D0′
 use Rattle.table.specs.declared.Table.{Table}
 use Rattle.table.proofs.Table as D1
 use Rattle.table.proofs.Table.Laws as D1′
-use Rattle.dsg.proofs.pieces.Received as D2
-use Rattle.dsg.proofs.pieces.Received.Laws as D2′
-use Rattle.dsg.specs.declared.pieces.ReceiveStepped.{ReceiveStepped}
-use Rattle.dsg.proofs.pieces.ReceiveStepped as D3
-use Rattle.dsg.proofs.pieces.ReceiveStepped.Laws as D3′
-use Rattle.dsg.proofs.pieces.receive_value as receive-value
-use Rattle.dsg.proofs.pieces.receive_value.Symbol as receive-value-def
-use Rattle.dsg.proofs.pieces.receive_value.Symbol.{name as #dsg·pieces·receive-value}
-use Rattle.dsg.proofs.pieces.receive_value.Met as receive-value-thm
+use Rattle.dsg_pieces.proofs.Received as D2
+use Rattle.dsg_pieces.proofs.Received.Laws as D2′
+use Rattle.dsg_pieces.specs.declared.ReceiveStepped.{ReceiveStepped}
+use Rattle.dsg_pieces.proofs.ReceiveStepped as D3
+use Rattle.dsg_pieces.proofs.ReceiveStepped.Laws as D3′
+use Rattle.dsg_pieces.proofs.receive_value as receive-value
+use Rattle.dsg_pieces.proofs.receive_value.Symbol as receive-value-def
+use Rattle.dsg_pieces.proofs.receive_value.Symbol.{name as #dsg_pieces·receive-value}
+use Rattle.dsg_pieces.proofs.receive_value.Met as receive-value-thm
 use Rattle.dsg.proofs.pieces.dsg_receive.Key.{name as #dsg·pieces·dsg-receive}
 use Rattle.dsg.proofs.pieces.dsg_receive as dsg-receive
 use Rattle.dsg.proofs.pieces.dsg_receive.Statement as stated
@@ -81,7 +81,7 @@ module _ {M : Type 1} (𝓤 : URA M) (H : Heap 𝓤) (A : Atoms 𝓤) (W : Given
       owned ! D0.the-row (Is D0.the-row) (LL.makes D0.the-type D0′.the-plain 𝓤 H A) h0 _ was0 $ fjoin ! $ move ! (1 ∷ 0 ∷ []) $ join ! $ frame ! $
       done !
 
-  module _ (C : Calls 𝓤 H) (Λ : Loops 𝓤 H) (fm : FmC 𝓤 H (W .laws) C) (known : Triple 𝓤 (C #dsg·pieces·receive-value) (Callee 𝓤 H A at-mem run)) where
+  module _ (C : Calls 𝓤 H) (Λ : Loops 𝓤 H) (fm : FmC 𝓤 H (W .laws) C) (known : Triple 𝓤 (C #dsg_pieces·receive-value) (Callee 𝓤 H A at-mem run)) where
     walk : ent 𝓤 (onEntry 𝓤 H A dsg-receive.signature (κ0, (κ1, (κ2, (κ3, (κ4, tt))))) (q0, (q1, (q2, (q3, (q4, tt))))) x at) (WpFn 𝓤 H C Λ code.function (vptr b0 o0 ∷ vptr b1 o1 ∷ sliceVal (p1 .ptr) (length (p1 .now)) ∷ sliceVal (p2 .ptr) (length (p2 .now)) ∷ sliceVal (p3 .ptr) (length (p3 .now)) ∷ []) Post)
     walk =
         qed W ((‵ (flft κ0 q0) ⊛ ‵ (flft κ1 q1) ⊛ ‵ (flft κ2 q2) ⊛ ‵ (flft κ3 q3) ⊛ ‵ (flft κ4 q4) ⊛ ‵ ftrue) ∷ ‵ (owns (MutRef (named 0) κ0 D0.the-row ∷ MutRef (named 1) κ1 D1.the-row ∷ (MutSlice (named 2) κ2 u8) ∷ (MutSlice (named 3) κ3 u8) ∷ (ShrSlice (named 4) κ4 u8) ∷ []) x at) ∷ []) ∵
@@ -138,7 +138,7 @@ module _ {M : Type 1} (𝓤 : URA M) (H : Heap 𝓤) (A : Atoms 𝓤) (W : Given
         by ! (exits r (zs .1 .1 .0) (zs .1 .1 .1 .0) eq (LL.owed D3.the-type D3′.the-laws r _ is .0) e0 e1)))))))))))))))))))))))))
 
 module _ {M : Type 1} (𝓤 : URA M) (H : Heap 𝓤) (A : Atoms 𝓤) (W : Given 𝓤 H A) (at-mem : Memory → SProp 𝓤) (run : Routine → Fun 𝓤) where
-  walks : (C : Calls 𝓤 H) (Λ : Loops 𝓤 H) → FmC 𝓤 H (W .laws) C → Triple 𝓤 (C #dsg·pieces·receive-value) (Callee 𝓤 H A at-mem run)
+  walks : (C : Calls 𝓤 H) (Λ : Loops 𝓤 H) → FmC 𝓤 H (W .laws) C → Triple 𝓤 (C #dsg_pieces·receive-value) (Callee 𝓤 H A at-mem run)
       → Walks 𝓤 H A dsg-receive.ended stayed (WpFn 𝓤 H C Λ code.function) (dsg-receive.clauses 𝓤 H A at-mem run)
   walks C Λ fm known = walked 𝓤 H A dsg-receive.ended stayed (dsg-receive.clauses 𝓤 H A at-mem run) (WpFn 𝓤 H C Λ code.function)
       (λ κs. (ptr-vals, (ptr-vals, (slice-vals, (slice-vals, (slice-vals, tt))))))
@@ -149,7 +149,7 @@ module _ {M : Type 1} (𝓤 : URA M) (H : Heap 𝓤) (A : Atoms 𝓤) (W : Given
   goes = (goes-ref 𝓤 H A W 5 0 tt (plain (λ _. D0.the-row)), (goes-ref 𝓤 H A W 5 1 tt (plain (λ _. D1.the-row)), (goes-gave-slice 𝓤 H A W 5 2 tt (plain (λ _. u8)), (goes-gave-slice 𝓤 H A W 5 3 tt (plain (λ _. u8)), (goes-none-slice 𝓤 H A W 5 (4 ∷ []) tt (plain (λ _. u8)) yes, tt)))))
 
 meets : {M : Type 1} (𝓤 : URA M) (H : Heap 𝓤) (A : Atoms 𝓤) → Given 𝓤 H A → (at-mem : Memory → SProp 𝓤) (run : Routine → Fun 𝓤) (𝓣 : Tables 𝓤 H)
-    → Triple 𝓤 (𝓣 .C #dsg·pieces·receive-value) (Callee 𝓤 H A at-mem run)
+    → Triple 𝓤 (𝓣 .C #dsg_pieces·receive-value) (Callee 𝓤 H A at-mem run)
     → Meets 𝓤 H A dsg-receive.signature (WpFn 𝓤 H (𝓣 .C) (𝓣 .Λ) code.function) (dsg-receive.spec 𝓤 H A at-mem run)
 meets 𝓤 H A W at-mem run 𝓣 known = walk-meets 𝓤 H A dsg-receive.ended stayed W (goes 𝓤 H A W at-mem run) (dsg-receive.clauses 𝓤 H A at-mem run)
     (WpFn 𝓤 H (𝓣 .C) (𝓣 .Λ) code.function) (WpFn-mono 𝓤 H (W .laws) 𝓣 code.function)
@@ -161,4 +161,4 @@ dsg-receive-spec 𝓤 H 𝓜 𝓖 𝓡 =
     entered 𝓤 H (tripleOf 𝓤 H (𝓖 .A) dsg-receive.signature (dsg-receive.spec 𝓤 H (𝓖 .A) (𝓜 .mem) (𝓡 .run)))
     (tables 𝓤 H 𝓜 𝓡 code.env .C) (tables 𝓤 H 𝓜 𝓡 code.env .Λ) #dsg·pieces·dsg-receive code.function (code.unfolded 𝓤 H 𝓜 𝓡)
     (meets 𝓤 H (𝓖 .A) (givenOf 𝓤 H 𝓜 𝓖) (𝓜 .mem) (𝓡 .run) (tablesOf 𝓤 H 𝓜 (tables 𝓤 H 𝓜 𝓡 code.env))
-    (cited 𝓤 H (Callee 𝓤 H (𝓖 .A) (𝓜 .mem) (𝓡 .run)) 𝓜 𝓡 code.env #dsg·pieces·receive-value receive-value-def.routine code.calls-dsg·pieces·receive-value (receive-value-thm.met 𝓤 H 𝓜 𝓖 𝓡)))
+    (cited 𝓤 H (Callee 𝓤 H (𝓖 .A) (𝓜 .mem) (𝓡 .run)) 𝓜 𝓡 code.env #dsg_pieces·receive-value receive-value-def.routine code.calls-dsg-pieces·receive-value (receive-value-thm.met 𝓤 H 𝓜 𝓖 𝓡)))

@@ -12,17 +12,17 @@ use Rattle.dsg.proofs.Walk.{owned, peeks, heard, nothing, spelt, onEntr
 use Rattle.dsg.proofs.Walk.{says, Stays, stay-none, stay-none-ref, gave-slice, walkOf, AllGo, goes-none, goes-none-ref, goes-gave-slice, Walks, ends-at}
 use Rattle.dsg.proofs.Walk.{walked, walk-meets, yes}
 use denote.Struct.Laws as LL
-use Rattle.dsg.specs.Tables.{listAfter}
+use Rattle.dsg_tables.specs.Tables.{listAfter}
 use Rattle.table.specs.declared.Table.{Table}
 use Rattle.table.proofs.Table as D0
 use Rattle.table.proofs.Table.Laws as D0′
-use Rattle.dsg.specs.declared.tables.Listed.{Listed}
-use Rattle.dsg.proofs.tables.Listed as D1
-use Rattle.dsg.proofs.tables.Listed.Laws as D1′
-use Rattle.dsg.proofs.tables.list_value as list-value
-use Rattle.dsg.proofs.tables.list_value.Symbol as list-value-def
-use Rattle.dsg.proofs.tables.list_value.Symbol.{name as #dsg·tables·list-value}
-use Rattle.dsg.proofs.tables.list_value.Met as list-value-thm
+use Rattle.dsg_tables.specs.declared.Listed.{Listed}
+use Rattle.dsg_tables.proofs.Listed as D1
+use Rattle.dsg_tables.proofs.Listed.Laws as D1′
+use Rattle.dsg_tables.proofs.list_value as list-value
+use Rattle.dsg_tables.proofs.list_value.Symbol as list-value-def
+use Rattle.dsg_tables.proofs.list_value.Symbol.{name as #dsg_tables·list-value}
+use Rattle.dsg_tables.proofs.list_value.Met as list-value-thm
 use Rattle.dsg.proofs.tables.dsg_list_table.Key.{name as #dsg·tables·dsg-list-table}
 use Rattle.dsg.proofs.tables.dsg_list_table as dsg-list-table
 use Rattle.dsg.proofs.tables.dsg_list_table.Statement as stated
@@ -72,7 +72,7 @@ module _ {M : Type 1} (𝓤 : URA M) (H : Heap 𝓤) (A : Atoms 𝓤) (W : Given
       owned ! D0.the-row (Is D0.the-row) (LL.makes D0.the-type D0′.the-plain 𝓤 H A) h _ was $ fjoin ! $ move ! (1 ∷ 0 ∷ []) $ join ! $ frame ! $
       done !
 
-  module _ (C : Calls 𝓤 H) (Λ : Loops 𝓤 H) (fm : FmC 𝓤 H (W .laws) C) (known : Triple 𝓤 (C #dsg·tables·list-value) (Callee 𝓤 H A at-mem run)) where
+  module _ (C : Calls 𝓤 H) (Λ : Loops 𝓤 H) (fm : FmC 𝓤 H (W .laws) C) (known : Triple 𝓤 (C #dsg_tables·list-value) (Callee 𝓤 H A at-mem run)) where
     walk : ent 𝓤 (onEntry 𝓤 H A dsg-list-table.signature (κ0, (κ1, tt)) (q0, (q1, tt)) x at) (WpFn 𝓤 H C Λ code.function (vptr b o ∷ vint w8 p1 ∷ sliceVal (p2 .ptr) (length (p2 .now)) ∷ []) Post)
     walk =
         qed W ((‵ (flft κ0 q0) ⊛ ‵ (flft κ1 q1) ⊛ ‵ ftrue) ∷ ‵ (owns (ShrRef (named 0) κ0 D0.the-row ∷ u8 ∷ (MutSlice (named 1) κ1 u8) ∷ []) x at) ∷ []) ∵
@@ -104,7 +104,7 @@ module _ {M : Type 1} (𝓤 : URA M) (H : Heap 𝓤) (A : Atoms 𝓤) (W : Given
         keep ! (6 ∷ 4 ∷ 0 ∷ 3 ∷ 1 ∷ 2 ∷ []) $ by ! (exits r v (zs .1 .1 .0) eq e1))))))))))))))))
 
 module _ {M : Type 1} (𝓤 : URA M) (H : Heap 𝓤) (A : Atoms 𝓤) (W : Given 𝓤 H A) (at-mem : Memory → SProp 𝓤) (run : Routine → Fun 𝓤) where
-  walks : (C : Calls 𝓤 H) (Λ : Loops 𝓤 H) → FmC 𝓤 H (W .laws) C → Triple 𝓤 (C #dsg·tables·list-value) (Callee 𝓤 H A at-mem run)
+  walks : (C : Calls 𝓤 H) (Λ : Loops 𝓤 H) → FmC 𝓤 H (W .laws) C → Triple 𝓤 (C #dsg_tables·list-value) (Callee 𝓤 H A at-mem run)
       → Walks 𝓤 H A dsg-list-table.ended stayed (WpFn 𝓤 H C Λ code.function) (dsg-list-table.clauses 𝓤 H A at-mem run)
   walks C Λ fm known = walked 𝓤 H A dsg-list-table.ended stayed (dsg-list-table.clauses 𝓤 H A at-mem run) (WpFn 𝓤 H C Λ code.function)
       (λ κs. (ptr-vals, (uint-vals w8, (slice-vals, tt))))
@@ -115,7 +115,7 @@ module _ {M : Type 1} (𝓤 : URA M) (H : Heap 𝓤) (A : Atoms 𝓤) (W : Given
   goes = (goes-none-ref 𝓤 H A W 2 (0 ∷ []) tt (plain (λ _. D0.the-row)) yes, (goes-none 𝓤 H A W 2 (λ _. u8) yes (λ κs x f. refl), (goes-gave-slice 𝓤 H A W 2 1 tt (plain (λ _. u8)), tt)))
 
 meets : {M : Type 1} (𝓤 : URA M) (H : Heap 𝓤) (A : Atoms 𝓤) → Given 𝓤 H A → (at-mem : Memory → SProp 𝓤) (run : Routine → Fun 𝓤) (𝓣 : Tables 𝓤 H)
-    → Triple 𝓤 (𝓣 .C #dsg·tables·list-value) (Callee 𝓤 H A at-mem run)
+    → Triple 𝓤 (𝓣 .C #dsg_tables·list-value) (Callee 𝓤 H A at-mem run)
     → Meets 𝓤 H A dsg-list-table.signature (WpFn 𝓤 H (𝓣 .C) (𝓣 .Λ) code.function) (dsg-list-table.spec 𝓤 H A at-mem run)
 meets 𝓤 H A W at-mem run 𝓣 known = walk-meets 𝓤 H A dsg-list-table.ended stayed W (goes 𝓤 H A W at-mem run) (dsg-list-table.clauses 𝓤 H A at-mem run)
     (WpFn 𝓤 H (𝓣 .C) (𝓣 .Λ) code.function) (WpFn-mono 𝓤 H (W .laws) 𝓣 code.function)
@@ -127,4 +127,4 @@ dsg-list-table-spec 𝓤 H 𝓜 𝓖 𝓡 =
     entered 𝓤 H (tripleOf 𝓤 H (𝓖 .A) dsg-list-table.signature (dsg-list-table.spec 𝓤 H (𝓖 .A) (𝓜 .mem) (𝓡 .run)))
     (tables 𝓤 H 𝓜 𝓡 code.env .C) (tables 𝓤 H 𝓜 𝓡 code.env .Λ) #dsg·tables·dsg-list-table code.function (code.unfolded 𝓤 H 𝓜 𝓡)
     (meets 𝓤 H (𝓖 .A) (givenOf 𝓤 H 𝓜 𝓖) (𝓜 .mem) (𝓡 .run) (tablesOf 𝓤 H 𝓜 (tables 𝓤 H 𝓜 𝓡 code.env))
-    (cited 𝓤 H (Callee 𝓤 H (𝓖 .A) (𝓜 .mem) (𝓡 .run)) 𝓜 𝓡 code.env #dsg·tables·list-value list-value-def.routine code.calls-dsg·tables·list-value (list-value-thm.met 𝓤 H 𝓜 𝓖 𝓡)))
+    (cited 𝓤 H (Callee 𝓤 H (𝓖 .A) (𝓜 .mem) (𝓡 .run)) 𝓜 𝓡 code.env #dsg_tables·list-value list-value-def.routine code.calls-dsg-tables·list-value (list-value-thm.met 𝓤 H 𝓜 𝓖 𝓡)))

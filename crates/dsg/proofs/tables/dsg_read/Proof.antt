@@ -11,19 +11,19 @@ use Rattle.dsg.proofs.Walk.{shr-slice-lawful, shr-slice-copy, length, R
 use Rattle.dsg.proofs.Walk.{nothing, spelt, onEntry, Meets, tripleOf, Contract, Triple, calls-at, ensured, lasts, entered, cited, says, Stays, stay-ref}
 use Rattle.dsg.proofs.Walk.{stay-none-slice, walkOf, AllGo, goes-none-slice, goes-ref, Walks, ends-at, walked, walk-meets, yes}
 use denote.Struct.Laws as LL
-use Rattle.dsg.specs.Tables.{readStepped}
+use Rattle.dsg_tables.specs.Tables.{readStepped}
 use Rattle.table.specs.declared.Table.{Table}
 use Rattle.table.proofs.Table as D0
 use Rattle.table.proofs.Table.Laws as D0′
-use Rattle.dsg.proofs.tables.ReadAnswer as D1
-use Rattle.dsg.proofs.tables.ReadAnswer.Laws as D1′
-use Rattle.dsg.specs.declared.tables.ReadStepped.{ReadStepped}
-use Rattle.dsg.proofs.tables.ReadStepped as D2
-use Rattle.dsg.proofs.tables.ReadStepped.Laws as D2′
-use Rattle.dsg.proofs.tables.read_value as read-value
-use Rattle.dsg.proofs.tables.read_value.Symbol as read-value-def
-use Rattle.dsg.proofs.tables.read_value.Symbol.{name as #dsg·tables·read-value}
-use Rattle.dsg.proofs.tables.read_value.Met as read-value-thm
+use Rattle.dsg_tables.proofs.ReadAnswer as D1
+use Rattle.dsg_tables.proofs.ReadAnswer.Laws as D1′
+use Rattle.dsg_tables.specs.declared.ReadStepped.{ReadStepped}
+use Rattle.dsg_tables.proofs.ReadStepped as D2
+use Rattle.dsg_tables.proofs.ReadStepped.Laws as D2′
+use Rattle.dsg_tables.proofs.read_value as read-value
+use Rattle.dsg_tables.proofs.read_value.Symbol as read-value-def
+use Rattle.dsg_tables.proofs.read_value.Symbol.{name as #dsg_tables·read-value}
+use Rattle.dsg_tables.proofs.read_value.Met as read-value-thm
 use Rattle.dsg.proofs.tables.dsg_read.Key.{name as #dsg·tables·dsg-read}
 use Rattle.dsg.proofs.tables.dsg_read as dsg-read
 use Rattle.dsg.proofs.tables.dsg_read.Statement as stated
@@ -73,7 +73,7 @@ module _ {M : Type 1} (𝓤 : URA M) (H : Heap 𝓤) (A : Atoms 𝓤) (W : Given
       split ! $ nothing ! $ move ! (2 ∷ 0 ∷ []) $ fjoin ! $ owned ! D0.the-row (Is D0.the-row) (LL.makes D0.the-type D0′.the-plain 𝓤 H A) h _ was $
       fjoin ! $ move ! (1 ∷ 0 ∷ []) $ join ! $ frame ! $ done !
 
-  module _ (C : Calls 𝓤 H) (Λ : Loops 𝓤 H) (fm : FmC 𝓤 H (W .laws) C) (known : Triple 𝓤 (C #dsg·tables·read-value) (Callee 𝓤 H A at-mem run)) where
+  module _ (C : Calls 𝓤 H) (Λ : Loops 𝓤 H) (fm : FmC 𝓤 H (W .laws) C) (known : Triple 𝓤 (C #dsg_tables·read-value) (Callee 𝓤 H A at-mem run)) where
     walk : ent 𝓤 (onEntry 𝓤 H A dsg-read.signature (κ0, (κ1, tt)) (q0, (q1, tt)) x at) (WpFn 𝓤 H C Λ code.function (vptr b o ∷ sliceVal (p1 .ptr) (length (p1 .now)) ∷ []) Post)
     walk =
         qed W ((‵ (flft κ0 q0) ⊛ ‵ (flft κ1 q1) ⊛ ‵ ftrue) ∷ ‵ (owns (MutRef (named 0) κ0 D0.the-row ∷ (ShrSlice (named 1) κ1 u8) ∷ []) x at) ∷ []) ∵
@@ -107,7 +107,7 @@ module _ {M : Type 1} (𝓤 : URA M) (H : Heap 𝓤) (A : Atoms 𝓤) (W : Given
         keep ! (0 ∷ 1 ∷ 2 ∷ 3 ∷ 4 ∷ []) $ by ! (exits r eq (LL.owed D2.the-type D2′.the-laws r _ is .0))))))))))))))
 
 module _ {M : Type 1} (𝓤 : URA M) (H : Heap 𝓤) (A : Atoms 𝓤) (W : Given 𝓤 H A) (at-mem : Memory → SProp 𝓤) (run : Routine → Fun 𝓤) where
-  walks : (C : Calls 𝓤 H) (Λ : Loops 𝓤 H) → FmC 𝓤 H (W .laws) C → Triple 𝓤 (C #dsg·tables·read-value) (Callee 𝓤 H A at-mem run)
+  walks : (C : Calls 𝓤 H) (Λ : Loops 𝓤 H) → FmC 𝓤 H (W .laws) C → Triple 𝓤 (C #dsg_tables·read-value) (Callee 𝓤 H A at-mem run)
       → Walks 𝓤 H A dsg-read.ended stayed (WpFn 𝓤 H C Λ code.function) (dsg-read.clauses 𝓤 H A at-mem run)
   walks C Λ fm known = walked 𝓤 H A dsg-read.ended stayed (dsg-read.clauses 𝓤 H A at-mem run) (WpFn 𝓤 H C Λ code.function)
       (λ κs. (ptr-vals, (slice-vals, tt)))
@@ -118,7 +118,7 @@ module _ {M : Type 1} (𝓤 : URA M) (H : Heap 𝓤) (A : Atoms 𝓤) (W : Given
   goes = (goes-ref 𝓤 H A W 2 0 tt (plain (λ _. D0.the-row)), (goes-none-slice 𝓤 H A W 2 (1 ∷ []) tt (plain (λ _. u8)) yes, tt))
 
 meets : {M : Type 1} (𝓤 : URA M) (H : Heap 𝓤) (A : Atoms 𝓤) → Given 𝓤 H A → (at-mem : Memory → SProp 𝓤) (run : Routine → Fun 𝓤) (𝓣 : Tables 𝓤 H)
-    → Triple 𝓤 (𝓣 .C #dsg·tables·read-value) (Callee 𝓤 H A at-mem run)
+    → Triple 𝓤 (𝓣 .C #dsg_tables·read-value) (Callee 𝓤 H A at-mem run)
     → Meets 𝓤 H A dsg-read.signature (WpFn 𝓤 H (𝓣 .C) (𝓣 .Λ) code.function) (dsg-read.spec 𝓤 H A at-mem run)
 meets 𝓤 H A W at-mem run 𝓣 known = walk-meets 𝓤 H A dsg-read.ended stayed W (goes 𝓤 H A W at-mem run) (dsg-read.clauses 𝓤 H A at-mem run)
     (WpFn 𝓤 H (𝓣 .C) (𝓣 .Λ) code.function) (WpFn-mono 𝓤 H (W .laws) 𝓣 code.function)
@@ -130,4 +130,4 @@ dsg-read-spec 𝓤 H 𝓜 𝓖 𝓡 =
     entered 𝓤 H (tripleOf 𝓤 H (𝓖 .A) dsg-read.signature (dsg-read.spec 𝓤 H (𝓖 .A) (𝓜 .mem) (𝓡 .run)))
     (tables 𝓤 H 𝓜 𝓡 code.env .C) (tables 𝓤 H 𝓜 𝓡 code.env .Λ) #dsg·tables·dsg-read code.function (code.unfolded 𝓤 H 𝓜 𝓡)
     (meets 𝓤 H (𝓖 .A) (givenOf 𝓤 H 𝓜 𝓖) (𝓜 .mem) (𝓡 .run) (tablesOf 𝓤 H 𝓜 (tables 𝓤 H 𝓜 𝓡 code.env))
-    (cited 𝓤 H (Callee 𝓤 H (𝓖 .A) (𝓜 .mem) (𝓡 .run)) 𝓜 𝓡 code.env #dsg·tables·read-value read-value-def.routine code.calls-dsg·tables·read-value (read-value-thm.met 𝓤 H 𝓜 𝓖 𝓡)))
+    (cited 𝓤 H (Callee 𝓤 H (𝓖 .A) (𝓜 .mem) (𝓡 .run)) 𝓜 𝓡 code.env #dsg_tables·read-value read-value-def.routine code.calls-dsg-tables·read-value (read-value-thm.met 𝓤 H 𝓜 𝓖 𝓡)))

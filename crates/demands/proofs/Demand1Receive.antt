@@ -1,0 +1,69 @@
+-- Demand1Receive: the first demand of one body all the way (`receive`): what a refusal leaves, and its numbers.
+--
+--   receiveStep-refused    a refused body: 1 to 5; the record, the table and both buffers are as they were
+--   receiveStep-message    a refused message: 3 at 0, or 6 to 15 at a byte of the message; the table is as it was, and the record and the
+--                          buffers are those of the body, which the collector accepted (docs/DECISIONS.md, D-030)
+--
+-- Trusts: nothing.
+use Prim.Native.Nat.{ℕ, _≤_, _<_}
+use mathlib.Core.Path.{_≡_, refl}
+use mathlib.Core.List.{List}
+use mathlib.Core.Logic.{_⊎_}
+use native.Mathlib.Omega.{arith}
+use lib.ListN.{length}
+use Rattle.collector.specs.Answers.{Said, refused, again, waiting, complete, lentOf}
+use Rattle.collector.specs.Step.{After, collectStep}
+use Rattle.collector.specs.declared.Collection.{Collection}
+use Rattle.table.specs.declared.Table.{Table}
+use Rattle.reader.specs.Read.{readTable}
+use Rattle.reader.specs.declared.Verdict.{Verdict}
+use Rattle.reader.specs.declared.Verdict.the-variants as reading
+use Rattle.receiver.specs.Receive as told
+use Rattle.receiver.specs.Receive.{Told, reported, taken, Had, receiveStep}
+use Rattle.demands.proofs.Demand1.{collectStep-refused, readTable-refused}
+
+reported-refused : (v : Verdict) (n : ℕ) → reported v ≡ told.bodyRefused n → ⊥
+reported-refused reading.Accepted n e = let z : _≡_ {A = ℕ} 0 1 = cc in omega arith
+reported-refused (reading.Refused m off) n e = let z : _≡_ {A = ℕ} 0 1 = cc in omega arith
+
+reported-message : (v : Verdict) (n off : ℕ) → reported v ≡ told.messageRefused n off → v ≡ reading.Refused n off
+reported-message reading.Accepted n off e = absurd (let z : _≡_ {A = ℕ} 0 1 = cc in omega arith)
+reported-message (reading.Refused m k) n off e = cc
+
+-- only what the collector refuses is reported as a refused body
+taken-refused : (s : Said) (t : Table) (message : List ℕ) (n : ℕ) → taken s t message .report ≡ told.bodyRefused n → s ≡ refused n
+unfolding taken
+taken-refused (refused m) t message n e = cc
+taken-refused again t message n e = absurd (let z : _≡_ {A = ℕ} 0 1 = cc in omega arith)
+taken-refused (waiting k) t message n e = absurd (let z : _≡_ {A = ℕ} 0 1 = cc in omega arith)
+taken-refused (complete k) t message n e = absurd (reported-refused (readTable t message .verdict) n e)
+
+-- only what the reader refuses is reported as a refused message
+taken-message : (s : Said) (t : Table) (message : List ℕ) (n off : ℕ) → taken s t message .report ≡ told.messageRefused n off
+    → (readTable t message .verdict ≡ reading.Refused n off) × (taken s t message .table ≡ readTable t message .table)
+unfolding taken
+taken-message (refused m) t message n off e = absurd (let z : _≡_ {A = ℕ} 0 1 = cc in omega arith)
+taken-message again t message n off e = absurd (let z : _≡_ {A = ℕ} 0 1 = cc in omega arith)
+taken-message (waiting k) t message n off e = absurd (let z : _≡_ {A = ℕ} 0 1 = cc in omega arith)
+taken-message (complete k) t message n off e = (reported-message (readTable t message .verdict) n off e, refl)
+
+pub receiveStep-refused : (r : Collection) (t : Table) (slots join body : List ℕ) (n : ℕ) → receiveStep r t slots join body .report ≡ told.bodyRefused n
+    → (receiveStep r t slots join body ≡ record { report = told.bodyRefused n; held = r; table = t; slots = slots; join = join }) × (1 ≤ n) × (n ≤ 5)
+unfolding receiveStep taken
+receiveStep-refused r t slots join body n e =
+    let c = collectStep-refused r slots join body n (taken-refused _ t _ n e) in
+    (rw (c .0) refl, c .1, c .2)
+
+-- the message that the collector lends
+abbrev pub messageAfter : After → List ℕ → List ℕ
+messageAfter a body = lentOf (a .answer) (a .held .number) body (a .join)
+
+pub receiveStep-message : (r : Collection) (t : Table) (slots join body : List ℕ) (n off : ℕ) → receiveStep r t slots join body .report ≡ told.messageRefused n off
+    → (let a = collectStep r slots join body in receiveStep r t slots join body ≡ record { report = told.messageRefused n off; held = a .held; table = t; slots = a .slots; join = a .join })
+    × (((n ≡ 3) × (off ≡ 0)) ⊎ ((6 ≤ n) × (n ≤ 15) × (off < length (messageAfter (collectStep r slots join body) body))))
+unfolding receiveStep
+receiveStep-message r t slots join body n off e =
+    let a = collectStep r slots join body in
+    let m = taken-message (a .answer) t (messageAfter a body) n off e in
+    let d = readTable-refused t (messageAfter a body) n off (m .0) in
+    (rw (e, m .1, d .0) refl, d .1)

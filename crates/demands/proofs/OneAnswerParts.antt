@@ -1,0 +1,111 @@
+-- OneAnswerParts: the contract of every public function of the lower crates admits one answer only, as OneAnswer says it of the entries.
+--
+-- One law, `only` of proofs/Contract.antt, and a line for each function.
+-- Trusts: nothing.
+use contract.Lifetimes.{Lfts}
+use denote.Ref.{now}
+use Rattle.demands.proofs.Contract.{One, only, answer}
+use Rattle.demands.proofs.Parts as parts
+use Rattle.listing.specs.Listing.{Listing, written}
+use Rattle.wire.proofs.number2.Reads as number2
+use Rattle.wire.proofs.number4.Reads as number4
+use Rattle.wire.proofs.number6.Reads as number6
+use Rattle.wire.proofs.copy_at.Reads as copy_at
+use Rattle.wire.proofs.same_bytes.Reads as same_bytes
+use Rattle.table.proofs.limited.Reads as limited
+use Rattle.table.proofs.empty_client.Reads as empty_client
+use Rattle.table.proofs.empty_rule.Reads as empty_rule
+use Rattle.table.proofs.empty_classifier.Reads as empty_classifier
+use Rattle.table.proofs.empty_table.Reads as empty_table
+use Rattle.elements.proofs.read_head.Reads as read_head
+use Rattle.elements.proofs.types.find_type.Reads as find_type
+use Rattle.elements.proofs.types.lacks_must.Reads as lacks_must
+use Rattle.rows.proofs.empty_tally.Reads as empty_tally
+use Rattle.rows.proofs.test_element.Reads as test_element
+use Rattle.contents.proofs.rule_at.Reads as rule_at
+use Rattle.contents.proofs.classifier_at.Reads as classifier_at
+use Rattle.contents.proofs.configuration_at.Reads as configuration_at
+use Rattle.bodies.proofs.list_body.Reads as list_body
+use Rattle.listing.proofs.list_table.Reads as list_table
+use Rattle.listing.proofs.list_refusal.Reads as list_refusal
+use Rattle.listing.proofs.list_waiting.Reads as list_waiting
+
+-- ---- wire
+
+pub number2-one : (κs : Lfts 1) → One answer (number2.Post κs)
+number2-one κs = only (parts.number2-gives κs)
+
+pub number4-one : (κs : Lfts 1) → One answer (number4.Post κs)
+number4-one κs = only (parts.number4-gives κs)
+
+pub number6-one : (κs : Lfts 1) → One answer (number6.Post κs)
+number6-one κs = only (parts.number6-gives κs)
+
+pub copy_at-one : (κs : Lfts 2) → One (λ x s. now (s .0)) (copy_at.Post κs)
+copy_at-one κs = only (parts.copy_at-gives κs)
+
+pub same_bytes-one : (κs : Lfts 2) → One answer (same_bytes.Post κs)
+same_bytes-one κs = only (parts.same_bytes-gives κs)
+
+-- ---- table
+
+pub limited-one : (κs : Lfts 0) → One answer (limited.Post κs)
+limited-one κs = only (parts.limited-gives κs)
+
+pub empty_client-one : (κs : Lfts 0) → One answer (empty_client.Post κs)
+empty_client-one κs = only (parts.empty_client-gives κs)
+
+pub empty_rule-one : (κs : Lfts 0) → One answer (empty_rule.Post κs)
+empty_rule-one κs = only (parts.empty_rule-gives κs)
+
+pub empty_classifier-one : (κs : Lfts 0) → One answer (empty_classifier.Post κs)
+empty_classifier-one κs = only (parts.empty_classifier-gives κs)
+
+pub empty_table-one : (κs : Lfts 0) → One answer (empty_table.Post κs)
+empty_table-one κs = only (parts.empty_table-gives κs)
+
+-- ---- elements
+
+pub read_head-one : (κs : Lfts 1) → One answer (read_head.Post κs)
+read_head-one κs = only (parts.read_head-gives κs)
+
+pub find_type-one : (κs : Lfts 0) → One answer (find_type.Post κs)
+find_type-one κs = only (parts.find_type-gives κs)
+
+pub lacks_must-one : (κs : Lfts 1) → One answer (lacks_must.Post κs)
+lacks_must-one κs = only (parts.lacks_must-gives κs)
+
+-- ---- rows
+
+pub empty_tally-one : (κs : Lfts 0) → One answer (empty_tally.Post κs)
+empty_tally-one κs = only (parts.empty_tally-gives κs)
+
+pub test_element-one : (κs : Lfts 1) → One answer (test_element.Post κs)
+test_element-one κs = only (parts.test_element-gives κs)
+
+-- ---- contents
+
+pub rule_at-one : (κs : Lfts 1) → One answer (rule_at.Post κs)
+rule_at-one κs = only (parts.rule_at-gives κs)
+
+pub classifier_at-one : (κs : Lfts 1) → One answer (classifier_at.Post κs)
+classifier_at-one κs = only (parts.classifier_at-gives κs)
+
+pub configuration_at-one : (κs : Lfts 1) → One answer (configuration_at.Post κs)
+configuration_at-one κs = only (parts.configuration_at-gives κs)
+
+-- ---- listing
+
+pub list_table-one : (κs : Lfts 1) → One {L = Listing} (λ x s. record { answer = written x; out = now (s .1 .1 .0) }) (list_table.Post κs)
+list_table-one κs = only (parts.list_table-gives κs)
+
+pub list_refusal-one : (κs : Lfts 1) → One {L = Listing} (λ x s. record { answer = written x; out = now (s .1 .1 .0) }) (list_refusal.Post κs)
+list_refusal-one κs = only (parts.list_refusal-gives κs)
+
+pub list_waiting-one : (κs : Lfts 1) → One {L = Listing} (λ x s. record { answer = written x; out = now (s .1 .0) }) (list_waiting.Post κs)
+list_waiting-one κs = only (parts.list_waiting-gives κs)
+
+-- ---- bodies
+
+pub list_body-one : (κs : Lfts 2) → One {L = Listing} (λ x s. record { answer = written x; out = now (s .1 .0) }) (list_body.Post κs)
+list_body-one κs = only (parts.list_body-gives κs)

@@ -1,4 +1,0 @@
-pub mod Bodies
-pub mod Events
-pub mod Frames
-pub mod Tables

@@ -1,0 +1,24 @@
+-- `dsg_pieces::collected_from` gives `collectedOf`: each arm rewrites by the variant that it is for.
+-- Trusts: nothing.
+use borrow.Author.Needs.{needs}
+use Rattle.dsg_pieces.proofs.collected_from.Statement.{statement}
+use Rattle.dsg_pieces.proofs.collected_from.Tie as tie
+
+-- Refused, Repeat, Waiting, Complete
+returns : tie.Need-returns
+returns c = rw (c .before .answer .given .1)
+
+returns-2 : tie.Need-returns-2
+returns-2 c = rw (c .enum-told .given .1)
+
+returns-3 : tie.Need-returns-3
+returns-3 c = rw (c .before .answer2 .given .1)
+
+returns-4 : tie.Need-returns-4
+returns-4 c = rw (c .complete-from .ensures, c .before .before .answer3 .given .1)
+
+pub collected-from-spec : {M : Type 1} → statement M
+collected-from-spec =
+    tie.close (tie.spec
+    (λ c. search needs) (λ c. search needs) (λ c. search needs) (λ c. search needs) (λ c. search needs) (λ c. search needs) (λ c κs. search needs)
+    returns returns-2 returns-3 returns-4)

@@ -1,0 +1,66 @@
+-- Bodies: the numbers by which what is answered to a body crosses to C (include/dsg.h).
+--
+--   collectedOf a number      an answer of the collector; number is that of the record after it
+--   collectAfter r slots join body   what a host has after `dsg_collect`: the answer, the record and both buffers
+--
+--   receivedOf a              a report of the receiver
+--   receiveAfter r t slots join body   what a host has after `dsg_receive`: the answer, the record, the table and both buffers
+--
+-- Kinds of a collected body: 0 refused, 1 repeat, 2 waiting, 3 complete and lent from the body, 4 complete and lent from the join buffer.
+-- Kinds of a received one: 0 refused, 1 repeat, 2 waiting, 3 the table accepted, 4 the message refused.
+-- What a kind does not use is 0. Trusts: nothing.
+use Prim.Native.Nat.{ℕ}
+use mathlib.Core.Bool.{cond}
+use mathlib.Core.List.{List}
+use lib.Dec.{eqb}
+use Rattle.collector.specs.Answers.{Said, refused, again, waiting, complete}
+use Rattle.collector.specs.Step.{After, collectStep}
+use Rattle.collector.specs.declared.Collection.{Collection}
+use Rattle.table.specs.declared.Table.{Table}
+use Rattle.receiver.specs.Receive as receiver
+use Rattle.receiver.specs.Receive.{Told, Had, receiveStep}
+use Rattle.dsg_pieces.specs.declared.Collected.{Collected}
+use Rattle.dsg_pieces.specs.declared.Received.{Received}
+
+-- the message of a number of 1 is the body from byte 3, any other stands at the start of the join buffer
+abbrev pub completeOf : ℕ → ℕ → Collected
+completeOf n number =
+    cond (eqb number 1) (record { kind = 3; number = 0; empty = 0; start = 3; length = n }) (record { kind = 4; number = 0; empty = 0; start = 0; length = n })
+
+abbrev pub collectedOf : Said → ℕ → Collected
+collectedOf (refused n) number = record { kind = 0; number = n; empty = 0; start = 0; length = 0 }
+collectedOf again number = record { kind = 1; number = 0; empty = 0; start = 0; length = 0 }
+collectedOf (waiting k) number = record { kind = 2; number = 0; empty = k; start = 0; length = 0 }
+collectedOf (complete n) number = completeOf n number
+
+pub record CollectAfter : Type 0 where
+  pub answer : Collected
+  pub held : Collection
+  pub slots : List ℕ
+  pub join : List ℕ
+
+abbrev pub collectedAs : After → CollectAfter
+collectedAs s = record { answer = collectedOf (s .answer) (s .held .number); held = s .held; slots = s .slots; join = s .join }
+
+abbrev pub collectAfter : Collection → List ℕ → List ℕ → List ℕ → CollectAfter
+collectAfter r slots join body = collectedAs (collectStep r slots join body)
+
+abbrev pub receivedOf : Told → Received
+receivedOf (receiver.bodyRefused n) = record { kind = 0; number = n; empty = 0; offset = 0 }
+receivedOf receiver.again = record { kind = 1; number = 0; empty = 0; offset = 0 }
+receivedOf (receiver.waiting k) = record { kind = 2; number = 0; empty = k; offset = 0 }
+receivedOf receiver.accepted = record { kind = 3; number = 0; empty = 0; offset = 0 }
+receivedOf (receiver.messageRefused n offset) = record { kind = 4; number = n; empty = 0; offset = offset }
+
+pub record ReceiveAfter : Type 0 where
+  pub answer : Received
+  pub held : Collection
+  pub table : Table
+  pub slots : List ℕ
+  pub join : List ℕ
+
+abbrev pub receivedAs : Had → ReceiveAfter
+receivedAs s = record { answer = receivedOf (s .report); held = s .held; table = s .table; slots = s .slots; join = s .join }
+
+abbrev pub receiveAfter : Collection → Table → List ℕ → List ℕ → List ℕ → ReceiveAfter
+receiveAfter r t slots join body = receivedAs (receiveStep r t slots join body)
