@@ -1,12 +1,12 @@
 -- Laws of reading (specs/Take.antt, specs/Read.antt): one for each way through a turn of the top-level loop.
 --
---   next-fits                              an element that is fine: the place after it lies further on in the message
+--   next-fits, next-less                   an element that is fine: the place after it lies further on in the message
 --   read-refused, read-taken, read-goes    6 to 13; 14; the element is taken up and the row goes on
 --   read-ends                              at the end of the message: 15 is left
 --   isTaken-rule, -classifier, -other      whether the number at `at` is among those kept
 --   withElement-rule, -classifier, -configuration, -other, and -rulefull, -classifierfull    what the element leaves
 -- Trusts: nothing.
-use Prim.Native.Nat.{ℕ, _+_, _≤_, _<_, min}
+use Prim.Native.Nat.{ℕ, _+_, _-_, _≤_, _<_, min}
 use mathlib.Core.Path.{_≡_, refl, sym, ap, _∙_}
 use mathlib.Core.Bool.{Bool, true, false, cond, not}
 use mathlib.Core.List.{List}
@@ -50,6 +50,10 @@ module _ (msg : List ℕ) (at : ℕ) (tally : Tally) {s : Tested} (e : s ≡ tes
         on End b = let x = headAt-ends msg at (length msg) b in absurd (omega arith)
         on (Refused n) b = let x = headAt-starts msg at (length msg) b in let y = on-bad b in absurd (omega arith)
         on (Value len) b = let x = headAt-fits msg at (length msg) b in let y = on-item b in (omega arith, omega arith)
+
+    -- what is left of the message falls
+    pub next-less : s .bad ≡ 0 → length msg - s .next < length msg - at
+    next-less fine = let on = next-fits fine in omega arith
 
     module _ (given t : Table) where
       pub read-refused : (s .bad ≡ 0 → ⊥) → refusal (s .bad) (s .off) given ≡ readRow given msg (rowIn msg at (length msg)) tally t

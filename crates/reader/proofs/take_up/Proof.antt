@@ -7,7 +7,7 @@ use mathlib.Core.Path.{_≡_, refl, sym, ap, _∙_}
 use native.Mathlib.Omega.{arith}
 use lib.ListN.{length}
 use Rattle.contents.proofs.LawsRules.{length-numbers}
-use Rattle.reader.proofs.LawsRead.{next-fits, isTaken-rule, isTaken-classifier, isTaken-other, withElement-rule, withElement-classifier, withElement-configuration, withElement-other}
+use Rattle.reader.proofs.LawsRead.{next-fits, next-less, isTaken-rule, isTaken-classifier, isTaken-other, withElement-rule, withElement-classifier, withElement-configuration, withElement-other}
 use Rattle.reader.proofs.Kept.{Kept, kept-empty, kept-rule, kept-rulefull, kept-classifier, kept-classifierfull, kept-configuration, withRule-pushed, withRule-full, withClassifier-pushed, withClassifier-full}
 use Rattle.reader.proofs.LawsSteps.{Rests, rests-empty, rests-on, takes-refused, takes-taken, takes-whole}
 use Rattle.reader.proofs.take_up.Statement.{statement}
@@ -40,9 +40,9 @@ take-up-spec =
     (λ c. search needs)
     (λ c. search needs)
     (λ c. omega arith)
-    (λ c. let on = next-fits _ _ _ (c .before .before .before .before .before .before .before .before .before .before .test-element .ensures) (c .before .before .before .before .before .before .before .before .before .before .before .before .if1 .taken) (c .before .before .before .before .before .before .before .before .if2 .left) in omega arith)
+    (λ c. next-less _ _ _ (c .before .before .before .before .before .before .before .before .before .before .test-element .ensures) (c .before .before .before .before .before .before .before .before .before .before .before .before .if1 .taken) (c .before .before .before .before .before .before .before .before .if2 .left))
     (λ c. (kept-rule (c .before .before .before .before .before .before .before .before .before .before .before .before .before .before .loop .inv .0) _ (c .if4 .taken) (length-numbers _ _ (c .before .before .before .before .before .rule-at .ensures)) (c .before .before .is-taken .ensures .1), next-fits _ _ _ (c .before .before .before .before .before .before .before .before .before .before .test-element .ensures) (c .before .before .before .before .before .before .before .before .before .before .before .before .if1 .taken) (c .before .before .before .before .before .before .before .before .if2 .left) .1, rests-on _ _ _ _ (c .before .before .before .before .before .before .before .before .before .before .before .before .before .before .loop .inv .2) (c .before .before .before .before .before .before .before .before .before .before .test-element .ensures) (c .before .before .before .before .before .before .before .before .before .before .before .before .if1 .taken) (c .before .before .before .before .before .before .before .before .if2 .left) (sym (isTaken-rule _ _ _ (c .before .before .before .before .before .before .match .keys1) (c .before .before .before .before .before .rule-at .ensures) (c .before .before .before .before .before .before .before .before .before .before .before .before .before .before .loop .inv .0 .ruled)) ∙ sym (c .before .before .is-taken .ensures .0) ∙ c .before .if3 .left) (withRule-pushed _ _ (c .if4 .taken) ∙ withElement-rule _ _ _ (c .before .before .before .before .before .before .match .keys1) (c .before .before .before .before .before .rule-at .ensures))))
-    (λ c. let on = next-fits _ _ _ (c .before .before .before .before .before .before .before .before .before .before .test-element .ensures) (c .before .before .before .before .before .before .before .before .before .before .before .before .if1 .taken) (c .before .before .before .before .before .before .before .before .if2 .left) in omega arith)
+    (λ c. next-less _ _ _ (c .before .before .before .before .before .before .before .before .before .before .test-element .ensures) (c .before .before .before .before .before .before .before .before .before .before .before .before .if1 .taken) (c .before .before .before .before .before .before .before .before .if2 .left))
     (λ c. (kept-rulefull (c .before .before .before .before .before .before .before .before .before .before .before .before .before .before .loop .inv .0) _ (c .if4 .left) (c .before .before .is-taken .ensures .1), next-fits _ _ _ (c .before .before .before .before .before .before .before .before .before .before .test-element .ensures) (c .before .before .before .before .before .before .before .before .before .before .before .before .if1 .taken) (c .before .before .before .before .before .before .before .before .if2 .left) .1, rests-on _ _ _ _ (c .before .before .before .before .before .before .before .before .before .before .before .before .before .before .loop .inv .2) (c .before .before .before .before .before .before .before .before .before .before .test-element .ensures) (c .before .before .before .before .before .before .before .before .before .before .before .before .if1 .taken) (c .before .before .before .before .before .before .before .before .if2 .left) (sym (isTaken-rule _ _ _ (c .before .before .before .before .before .before .match .keys1) (c .before .before .before .before .before .rule-at .ensures) (c .before .before .before .before .before .before .before .before .before .before .before .before .before .before .loop .inv .0 .ruled)) ∙ sym (c .before .before .is-taken .ensures .0) ∙ c .before .if3 .left) (withRule-full _ _ (c .if4 .left) ∙ withElement-rule _ _ _ (c .before .before .before .before .before .before .match .keys1) (c .before .before .before .before .before .rule-at .ensures))))
     (λ c κs. search needs)
     (λ c κs. (c .before .before .before .before .before .before .before .before .before .before .loop .inv .0 .classifiers, c .before .before .before .before .before .before .before .before .before .before .loop .inv .0 .classifieridroom))
@@ -51,13 +51,13 @@ take-up-spec =
     (λ c. search needs)
     (λ c. search needs)
     (λ c. omega arith)
-    (λ c. let on = next-fits _ _ _ (c .before .before .before .before .before .before .before .before .before .test-element .ensures) (c .before .before .before .before .before .before .before .before .before .before .before .if1 .taken) (c .before .before .before .before .before .before .before .if2 .left) in omega arith)
+    (λ c. next-less _ _ _ (c .before .before .before .before .before .before .before .before .before .test-element .ensures) (c .before .before .before .before .before .before .before .before .before .before .before .if1 .taken) (c .before .before .before .before .before .before .before .if2 .left))
     (λ c. (kept-classifier (c .before .before .before .before .before .before .before .before .before .before .before .before .before .loop .inv .0) _ (c .if6 .taken) (c .before .before .is-taken2 .ensures .1), next-fits _ _ _ (c .before .before .before .before .before .before .before .before .before .test-element .ensures) (c .before .before .before .before .before .before .before .before .before .before .before .if1 .taken) (c .before .before .before .before .before .before .before .if2 .left) .1, rests-on _ _ _ _ (c .before .before .before .before .before .before .before .before .before .before .before .before .before .loop .inv .2) (c .before .before .before .before .before .before .before .before .before .test-element .ensures) (c .before .before .before .before .before .before .before .before .before .before .before .if1 .taken) (c .before .before .before .before .before .before .before .if2 .left) (sym (isTaken-classifier _ _ _ (c .before .before .before .before .before .match .keys2) (c .before .before .before .before .classifier-at .ensures) (c .before .before .before .before .before .before .before .before .before .before .before .before .before .loop .inv .0 .classified)) ∙ sym (c .before .before .is-taken2 .ensures .0) ∙ c .before .if5 .left) (withClassifier-pushed _ _ (c .if6 .taken) ∙ withElement-classifier _ _ _ (c .before .before .before .before .before .match .keys2) (c .before .before .before .before .classifier-at .ensures))))
-    (λ c. let on = next-fits _ _ _ (c .before .before .before .before .before .before .before .before .before .test-element .ensures) (c .before .before .before .before .before .before .before .before .before .before .before .if1 .taken) (c .before .before .before .before .before .before .before .if2 .left) in omega arith)
+    (λ c. next-less _ _ _ (c .before .before .before .before .before .before .before .before .before .test-element .ensures) (c .before .before .before .before .before .before .before .before .before .before .before .if1 .taken) (c .before .before .before .before .before .before .before .if2 .left))
     (λ c. (kept-classifierfull (c .before .before .before .before .before .before .before .before .before .before .before .before .before .loop .inv .0) _ (c .if6 .left) (c .before .before .is-taken2 .ensures .1), next-fits _ _ _ (c .before .before .before .before .before .before .before .before .before .test-element .ensures) (c .before .before .before .before .before .before .before .before .before .before .before .if1 .taken) (c .before .before .before .before .before .before .before .if2 .left) .1, rests-on _ _ _ _ (c .before .before .before .before .before .before .before .before .before .before .before .before .before .loop .inv .2) (c .before .before .before .before .before .before .before .before .before .test-element .ensures) (c .before .before .before .before .before .before .before .before .before .before .before .if1 .taken) (c .before .before .before .before .before .before .before .if2 .left) (sym (isTaken-classifier _ _ _ (c .before .before .before .before .before .match .keys2) (c .before .before .before .before .classifier-at .ensures) (c .before .before .before .before .before .before .before .before .before .before .before .before .before .loop .inv .0 .classified)) ∙ sym (c .before .before .is-taken2 .ensures .0) ∙ c .before .if5 .left) (withClassifier-full _ _ (c .if6 .left) ∙ withElement-classifier _ _ _ (c .before .before .before .before .before .match .keys2) (c .before .before .before .before .classifier-at .ensures))))
     (λ c κs. search needs)
-    (λ c. let on = next-fits _ _ _ (c .before .before .before .before .before .before .before .test-element .ensures) (c .before .before .before .before .before .before .before .before .before .if1 .taken) (c .before .before .before .before .before .if2 .left) in omega arith)
+    (λ c. next-less _ _ _ (c .before .before .before .before .before .before .before .test-element .ensures) (c .before .before .before .before .before .before .before .before .before .if1 .taken) (c .before .before .before .before .before .if2 .left))
     (λ c. (kept-configuration (c .before .before .before .before .before .before .before .before .before .before .before .loop .inv .0) _, next-fits _ _ _ (c .before .before .before .before .before .before .before .test-element .ensures) (c .before .before .before .before .before .before .before .before .before .if1 .taken) (c .before .before .before .before .before .if2 .left) .1, rests-on _ _ _ _ (c .before .before .before .before .before .before .before .before .before .before .before .loop .inv .2) (c .before .before .before .before .before .before .before .test-element .ensures) (c .before .before .before .before .before .before .before .before .before .if1 .taken) (c .before .before .before .before .before .if2 .left) (isTaken-other _ _ _ (λ z. omega (arith, c .before .before .before .match .keys3)) (λ z. omega (arith, c .before .before .before .match .keys3))) (withElement-configuration _ _ _ (c .before .before .before .match .keys3) (c .before .before .configuration-at .ensures))))
-    (λ c. let on = next-fits _ _ _ (c .before .before .before .before .test-element .ensures) (c .before .before .before .before .before .before .if1 .taken) (c .before .before .if2 .left) in omega arith)
+    (λ c. next-less _ _ _ (c .before .before .before .before .test-element .ensures) (c .before .before .before .before .before .before .if1 .taken) (c .before .before .if2 .left))
     (λ c. (c .before .before .before .before .before .before .before .before .loop .inv .0, next-fits _ _ _ (c .before .before .before .before .test-element .ensures) (c .before .before .before .before .before .before .if1 .taken) (c .before .before .if2 .left) .1, rests-on _ _ _ _ (c .before .before .before .before .before .before .before .before .loop .inv .2) (c .before .before .before .before .test-element .ensures) (c .before .before .before .before .before .before .if1 .taken) (c .before .before .if2 .left) (isTaken-other _ _ _ (c .match .rest .0 .0 .1) (c .match .rest .0 .1)) (withElement-other _ _ _ (c .match .rest .0 .0 .1) (c .match .rest .0 .1) (c .match .rest .1))))
     (λ c. takes-whole _ _ _ _ (c .before .before .loop .inv .2) (c .before .before .loop .inv .0) (c .if1 .left)))
