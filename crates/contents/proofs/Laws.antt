@@ -4,7 +4,7 @@
 --   rowIn-stop     no element stands there: done or bad     rowIn-item      an element and the row behind it
 --   fold-stop      a fold where no element stands           fold-item       a fold over an element, then over the rest
 --   rowInside-done no element stands there                  rowInside-row   the row that an element's value is
---   item-fits      an element's bytes lie in its row and in the message
+--   item-fits      an element's bytes lie in its row and in the message      item-less   what is left of the row falls
 --   fold-keeps     what every step keeps, a fold keeps
 -- Trusts: nothing.
 use Prim.Native.Nat.{ℕ, zero, suc, _+_, _-_, _≤_, _<_, min}
@@ -52,6 +52,10 @@ module _ (msg : List ℕ) (at end : ℕ) where
 
   pub item-fits : {h : Head} {len : ℕ} → h ≡ headAt msg at end → h ≡ Value len → (at + 2 + len ≤ end) × (at + 2 + len ≤ length msg) × (len ≡ lengthByte msg at)
   item-fits e v = headAt-fits msg at end (sym e ∙ v)
+
+  -- what is left of a row falls
+  pub item-less : {h : Head} {len : ℕ} → h ≡ headAt msg at end → h ≡ Value len → end - (at + 2 + len) < end - at
+  item-less e v = let fits = item-fits e v in omega arith
 
 -- no element stands there: the row is done, or its head is bad
 pub rowIn-stop : (P : Row → Type 0) (msg : List ℕ) (at end : ℕ) {h : Head} → h ≡ headAt msg at end → ((len : ℕ) → h ≡ Value len → ⊥)

@@ -1,6 +1,7 @@
 -- Configurations: what the row of a configuration leaves (document 01, "Elements", 51).
 --
 --   emptyConfiguration    no channel; the timer values that absent elements mean
+--   withTimer at t        the timer values t with the child at `at` taken up (for a private function, which no public promise cites)
 --   withConfigurationChild at len q   the configuration q with the child at `at`, of len bytes, taken up
 --   configurationAt msg at   the configuration of the element at `at`: its children, in byte order, taken up into an empty one
 --
@@ -31,6 +32,16 @@ withChannel v q =
 
 abbrev pub withTimers : TimerValues → Configuration → Configuration
 withTimers t q = record { channelcount = q .channelcount; channels = q .channels; timers = t }
+
+-- the timer values with the child at `at` taken up: 51.2 to 51.5
+unfoldable pub withTimer : List ℕ → ℕ → TimerValues → TimerValues
+withTimer msg at t =
+    let v = numberAt 2 msg (at + 2) in
+    cond (eqb (typeAt msg at) 2) (record { tdsg1 = v; tdsg2 = t .tdsg2; tdsg3 = t .tdsg3; tdsg4 = t .tdsg4 })
+    (cond (eqb (typeAt msg at) 3) (record { tdsg1 = t .tdsg1; tdsg2 = v; tdsg3 = t .tdsg3; tdsg4 = t .tdsg4 })
+    (cond (eqb (typeAt msg at) 4) (record { tdsg1 = t .tdsg1; tdsg2 = t .tdsg2; tdsg3 = v; tdsg4 = t .tdsg4 })
+    (cond (eqb (typeAt msg at) 5) (record { tdsg1 = t .tdsg1; tdsg2 = t .tdsg2; tdsg3 = t .tdsg3; tdsg4 = v })
+    t)))
 
 unfoldable pub withConfigurationChild : List ℕ → ℕ → ℕ → Configuration → Configuration
 withConfigurationChild msg at len q =

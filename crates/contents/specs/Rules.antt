@@ -1,5 +1,6 @@
 -- Rules: what the row of a rule leaves (document 01, "Elements", 50 and 50.4).
 --
+--   isClient kind        whether a child of 50.4 is a client ID (for a private test, which no public promise cites)
 --   clientsIn row        the client IDs of a 50.4, in byte order
 --   withRuleChild at len q   the rule q with the child at `at`, of len bytes, taken up
 --   ruleAt msg at        the rule of the element at `at`: its children, in byte order, taken up into an empty rule
@@ -10,7 +11,7 @@
 -- Tested by: proofs/Bench.antt of the crate reader.
 -- Trusts: nothing.
 use Prim.Native.Nat.{ℕ, _+_}
-use mathlib.Core.Bool.{cond}
+use mathlib.Core.Bool.{Bool, cond, not, _&&_}
 use mathlib.Core.List.{List}
 use lib.ListN.{getD, set, take, drop, replicate}
 use lib.Dec.{eqb, ltb, leb}
@@ -35,6 +36,10 @@ clientAt msg at len =
     (cond (eqb (typeAt msg at) 1)
     (cond (eqb len 0) (record { kind = 0; value = 0 }) (record { kind = 1; value = numberAt 2 msg (at + 2) }))
     (record { kind = typeAt msg at; value = numberAt 2 msg (at + 2) }))
+
+-- 50.4.1 to 50.4.4
+unfoldable pub isClient : ℕ → Bool
+isClient kind = not (ltb 4 kind) && not (eqb kind 0)
 
 unfoldable pub withClientChild : List ℕ → ℕ → ℕ → Clients → Clients
 withClientChild msg at len so =

@@ -2,6 +2,7 @@
 --
 --   Kept ruleids classifierids t   the first of each list are the numbers in t; every list has its length
 --   kept-empty, kept-rule, kept-classifier, kept-configuration   it holds at the start and after each element
+--   kept-rulefull, kept-classifierfull   it holds after an element that has no place
 --   pushed-rule, pushed-classifier   what a store at the next place is
 -- Trusts: nothing.
 use Prim.Native.Nat.{ℕ, zero, suc, _+_, _≤_, _<_}
@@ -11,6 +12,7 @@ use mathlib.Core.List.{List, map}
 use native.Mathlib.Omega.{arith}
 use borrow.Author.Tests.{lt-ltb, le-ltb}
 use lib.ListN.{length, take, getD, set, replicate, length-set}
+use lib.Seq.{set-out}
 use Rattle.table.specs.Table.{limitedTo, rulesOf, classifiersOf, emptyRule, emptyTable}
 use Rattle.table.specs.declared.Rule.{Rule}
 use Rattle.table.specs.declared.Classifier.{Classifier}
@@ -75,9 +77,10 @@ kept-empty =
     all i = within 32 i
 
 module _ {a b : List ℕ} {t : Table} (k : Kept a b t) where
-  pub kept-rule : (q : Rule) → t .rulecount < 32 → length (q .numbers) ≡ 8 → Kept (set a (t .rulecount) (q .number)) b (pushedRule q t)
+  pub kept-rule : (q : Rule) → t .rulecount < 32 → length (q .numbers) ≡ 8 → {ids : List ℕ} → ids ≡ set a (t .rulecount) (q .number) → Kept ids b (pushedRule q t)
   unfolding rulesOf classifiersOf RulesSized
-  kept-rule q h s =
+  kept-rule q h s e =
+      rw e
       record {
         rules = omega arith;
         classifiers = k .classifiers;
@@ -93,9 +96,10 @@ module _ {a b : List ℕ} {t : Table} (k : Kept a b t) where
         classified = k .classified;
       }
 
-  pub kept-classifier : (q : Classifier) → t .classifiercount < 32 → Kept a (set b (t .classifiercount) (q .number)) (pushedClassifier q t)
+  pub kept-classifier : (q : Classifier) → t .classifiercount < 32 → {ids : List ℕ} → ids ≡ set b (t .classifiercount) (q .number) → Kept a ids (pushedClassifier q t)
   unfolding rulesOf classifiersOf RulesSized
-  kept-classifier q h =
+  kept-classifier q h e =
+      rw e
       record {
         rules = k .rules;
         classifiers = omega arith;
@@ -110,6 +114,12 @@ module _ {a b : List ℕ} {t : Table} (k : Kept a b t) where
             (k .classified ∙ simp (limited-same 32 (t .classifiercount) (k .classifiers)))
             ∙ simp (limited-same 32 (t .classifiercount + 1) (omega arith));
       }
+
+  pub kept-rulefull : (n : ℕ) {ids : List ℕ} → 32 ≤ t .rulecount → ids ≡ set a (t .rulecount) n → Kept ids b t
+  kept-rulefull n h e = rw (e, set-out a (t .rulecount) n (omega (arith, k .ruleidroom))) k
+
+  pub kept-classifierfull : (n : ℕ) {ids : List ℕ} → 32 ≤ t .classifiercount → ids ≡ set b (t .classifiercount) n → Kept a ids t
+  kept-classifierfull n h e = rw (e, set-out b (t .classifiercount) n (omega (arith, k .classifieridroom))) k
 
   pub kept-configuration : (q : Configuration) → Kept a b (withConfiguration q t)
   unfolding rulesOf classifiersOf RulesSized

@@ -1,12 +1,12 @@
 -- Laws of reading (specs/Take.antt, specs/Read.antt): one for each way through a turn of the top-level loop.
 --
---   next-fits                              an element that is fine: the place after it lies further on in the message
+--   next-fits, next-less                   an element that is fine: the place after it lies further on in the message
 --   read-refused, read-taken, read-goes    6 to 13; 14; the element is taken up and the row goes on
---   read-accepted, read-lone               at the end of the message: the table, or 15
+--   read-ends                              at the end of the message: 15 is left
 --   isTaken-rule, -classifier, -other      whether the number at `at` is among those kept
 --   withElement-rule, -classifier, -configuration, -other, and -rulefull, -classifierfull    what the element leaves
 -- Trusts: nothing.
-use Prim.Native.Nat.{ℕ, _+_, _≤_, _<_, min}
+use Prim.Native.Nat.{ℕ, _+_, _-_, _≤_, _<_, min}
 use mathlib.Core.Path.{_≡_, refl, sym, ap, _∙_}
 use mathlib.Core.Bool.{Bool, true, false, cond, not}
 use mathlib.Core.List.{List}
@@ -29,12 +29,8 @@ use Rattle.contents.proofs.Laws.{rowIn-rule}
 use Rattle.rows.specs.Rows.{testedAt}
 use Rattle.rows.specs.declared.Tally.{Tally}
 use Rattle.rows.specs.declared.Tested.{Tested}
-use Rattle.reader.specs.Take.{withRule, withClassifier, withConfiguration, withElement, isListed, ruleNumbers, classifierNumbers, isTaken, unanswered, namedPlace}
+use Rattle.reader.specs.Take.{withRule, withClassifier, withConfiguration, withElement, isListed, ruleNumbers, classifierNumbers, isTaken, unanswered}
 use Rattle.reader.specs.Read.{refusal, readLone, readRow}
-use Rattle.reader.specs.declared.Reading.{Reading}
-use Rattle.reader.specs.declared.Verdict.the-variants.{Accepted}
-use Rattle.reader.specs.declared.Lone.{Lone}
-use Rattle.reader.specs.declared.Lone.the-variants.{Answered, Number}
 
 module _ (msg : List ℕ) (at : ℕ) (tally : Tally) {s : Tested} (e : s ≡ testedAt msg at tally) where
   -- what the head at `at` says of the test's answer
@@ -54,6 +50,10 @@ module _ (msg : List ℕ) (at : ℕ) (tally : Tally) {s : Tested} (e : s ≡ tes
         on End b = let x = headAt-ends msg at (length msg) b in absurd (omega arith)
         on (Refused n) b = let x = headAt-starts msg at (length msg) b in let y = on-bad b in absurd (omega arith)
         on (Value len) b = let x = headAt-fits msg at (length msg) b in let y = on-item b in (omega arith, omega arith)
+
+    -- what is left of the message falls
+    pub next-less : s .bad ≡ 0 → length msg - s .next < length msg - at
+    next-less fine = let on = next-fits fine in omega arith
 
     module _ (given t : Table) where
       pub read-refused : (s .bad ≡ 0 → ⊥) → refusal (s .bad) (s .off) given ≡ readRow given msg (rowIn msg at (length msg)) tally t
@@ -82,17 +82,9 @@ module _ (msg : List ℕ) (at : ℕ) (tally : Tally) {s : Tested} (e : s ≡ tes
             on (Refused n) b = let x = headAt-starts msg at (length msg) b in let y = on-bad b in absurd (omega arith)
             on (Value len) b = rw (rowIn-rule msg at (length msg), b, ← e, eq-eqb (s .bad) 0 fine, free, on-item b, w)
 
--- the end of the message: 15, or the table
-module _ (msg : List ℕ) (at : ℕ) (tally : Tally) (given t : Table) (past : length msg ≤ at) {lone : Lone} (e : lone ≡ unanswered t) where
-  pub read-accepted : ((i j : ℕ) → lone ≡ Number i j → ⊥) → record { verdict = Accepted; table = t } ≡ readRow given msg (rowIn msg at (length msg)) tally t
-  read-accepted never = simp (rowIn-rule msg at (length msg), headAt-end msg at (length msg) (omega arith), ← e) (on lone never)
-    where
-      on : (l : Lone) → ((i j : ℕ) → l ≡ Number i j → ⊥) → record { verdict = Accepted; table = t } ≡ readLone given msg t l
-      on Answered never = refl
-      on (Number i j) never = absurd (never i j refl)
-
-  pub read-lone : {i j : ℕ} → lone ≡ Number i j → {off : ℕ} → off ≡ namedPlace msg i j → refusal 15 off given ≡ readRow given msg (rowIn msg at (length msg)) tally t
-  read-lone a p = simp (rowIn-rule msg at (length msg), headAt-end msg at (length msg) (omega arith), ← e, a, p)
+-- the end of the message: 15 is left
+pub read-ends : (msg : List ℕ) (at : ℕ) (tally : Tally) (given t : Table) → length msg ≤ at → readLone given msg t (unanswered t) ≡ readRow given msg (rowIn msg at (length msg)) tally t
+read-ends msg at tally given t past = simp (rowIn-rule msg at (length msg), headAt-end msg at (length msg) (omega arith))
 
 module _ (msg : List ℕ) (at : ℕ) (t : Table) where
   pub isTaken-rule : typeAt msg at ≡ 50 → {q : Rule} → q ≡ ruleAt msg at → {ids : List ℕ} → ids ≡ ruleNumbers t → isListed (q .number) ids ≡ isTaken msg at t

@@ -4,17 +4,19 @@
 // (3, 6 to 15, with its offset), and then the table comes back as it was given. Nothing of the given
 // table enters an accepted one.
 //
-// Stack, measured on the compiled code for x86-64: some 28 KB in one frame, which holds the given table, the
+// Stack, measured on the compiled code for x86-64: some 33 KB in one frame, which holds the given table, the
 // table that is being read and their copies, and under 2 KB below it, whatever the length of the message.
 use elements::Head;
+use rows::Tested;
 use table::Table;
 ghost use mathlib.Core.Path.{_≡_};
 ghost use Prim.Native.Nat.{_≤_};
-ghost use lib.ListN.{length, getD, take};
+ghost use lib.ListN.{length, getD, set, take, replicate};
 ghost use Rattle.contents.specs.Rows.{rowIn, placesOf};
 ghost use Rattle.table.specs.Table.{limitedTo};
 ghost use Rattle.reader.specs.Take.{isListed, unanswered, namedPlace, classifierNumbers, RulesSized};
 ghost use Rattle.reader.specs.Read.{refusal, readTable};
+ghost use Rattle.reader.specs.Steps.{TakesUp, Carries, ReadsAs, lastVerdict};
 
 // The longest message.
 const MESSAGE_BYTES: usize = 23952;
@@ -30,6 +32,13 @@ pub enum Verdict {
 // The verdict, and the table: the message's if it is accepted, else the one given.
 pub struct Reading {
     pub verdict: Verdict,
+    pub table: Table,
+}
+
+// What the top-level elements come to: 0, or a refusal number of 6 to 14 and its offset; and the table so far.
+pub struct Taken {
+    pub bad: u8,
+    pub off: usize,
     pub table: Table,
 }
 
@@ -141,53 +150,74 @@ fn first_unanswered(table: Table, carried: &[u16; 32], count: usize) -> Lone
     lone
 }
 
-// Reads the message: 3, then the top-level elements in byte order, each tested and taken up, last 15.
-pub fn read_table(given: Table, message: &[u8]) -> Reading
-    ensures { λ r. ⌜ r ≡ readTable given (now (message .entry)) ⌝ }
+// Whether the number is among the first `count` of the list. It is noted at the next place, if there is one.
+fn is_taken(list: &mut [u16; 32], count: u8, number: u16) -> bool
+    requires { ⌜ (count ≤ 32) × (length (now list) ≡ 32) ⌝ }
+    ensures { λ r. ⌜ (r ≡ isListed number (take count (now (list .entry)))) × (now (list .exit) ≡ set (now (list .entry)) count number) ⌝ }
 {
-    if MESSAGE_BYTES < message.len() {
-        return refuse(3, 0, given);
+    let n = count as usize;
+    let taken = is_listed(list, n, number);
+    if n < 32 {
+        list[n] = number;
     }
+    taken
+}
+
+// The top-level elements in byte order, each tested 6 to 14 and taken up. The numbers of the classifiers go to `carried`.
+fn take_up(message: &[u8], carried: &mut [u16; 32]) -> Taken
+    requires { ⌜ now carried ≡ replicate 32 0 ⌝ }
+    ensures { λ r. ⌜ TakesUp (now (message .entry)) (now (carried .exit)) r ⌝ }
+{
     let mut table = table::empty_table();
     let mut ruleids = [0u16; 32];
-    let mut classifierids = [0u16; 32];
-    let mut tally = rows::empty_tally();
-    let mut at = 0;
-    while at < message.len() {
-        let tested = rows::test_element(message, at, tally);
+    let tally = rows::empty_tally();
+    let mut tested = Tested {
+        bad: 0,
+        off: 0,
+        next: 0,
+        tally,
+    };
+    while tested.next < message.len() {
+        let here = tested.next;
+        let before = tested.tally;
+        tested = rows::test_element(message, here, before);
         if tested.bad != 0 {
-            return refuse(tested.bad, tested.off, given);
+            return Taken {
+                bad: tested.bad,
+                off: tested.off,
+                table,
+            };
         }
-        let here = at;
-        at = tested.next;
-        let after = tested.tally;
-        tally = after;
         let kind = message[here];
         match kind {
             50 => {
                 let rule = contents::rule_at(message, here);
-                let n = table.rulecount as usize;
-                let number = rule.number as u16;
-                if is_listed(&ruleids, n, number) {
-                    return refuse(14, here, given);
+                let used = table.rulecount;
+                if is_taken(&mut ruleids, used, rule.number as u16) {
+                    return Taken {
+                        bad: 14,
+                        off: here,
+                        table,
+                    };
                 }
-                if n < 32 {
-                    ruleids[n] = number;
-                    table.rules[n] = rule;
-                    table.rulecount = table.rulecount + 1;
+                if used < 32 {
+                    table.rules[used as usize] = rule;
+                    table.rulecount = used + 1;
                 }
             }
             23 => {
                 let classifier = contents::classifier_at(message, here);
-                let n = table.classifiercount as usize;
-                let number = classifier.number;
-                if is_listed(&classifierids, n, number) {
-                    return refuse(14, here, given);
+                let used = table.classifiercount;
+                if is_taken(carried, used, classifier.number) {
+                    return Taken {
+                        bad: 14,
+                        off: here,
+                        table,
+                    };
                 }
-                if n < 32 {
-                    classifierids[n] = number;
-                    table.classifiers[n] = classifier;
-                    table.classifiercount = table.classifiercount + 1;
+                if used < 32 {
+                    table.classifiers[used as usize] = classifier;
+                    table.classifiercount = used + 1;
                 }
             }
             51 => {
@@ -201,15 +231,54 @@ pub fn read_table(given: Table, message: &[u8]) -> Reading
             _ => {}
         }
     }
+    Taken {
+        bad: 0,
+        off: 0,
+        table,
+    }
+}
+
+// Test 15 of the table that the elements leave.
+fn last_test(message: &[u8], table: Table, carried: &[u16; 32]) -> Verdict
+    requires { ⌜ Carries (now carried) table ⌝ }
+    ensures { λ r. ⌜ r ≡ lastVerdict (now (message .entry)) (unanswered table) ⌝ }
+{
     let count = table.classifiercount as usize;
-    match first_unanswered(table, &classifierids, count) {
-        Lone::Answered => {
-            let verdict = Verdict::Accepted;
-            Reading { verdict, table }
-        }
+    match first_unanswered(table, carried, count) {
+        Lone::Answered => Verdict::Accepted,
         Lone::Number(i, j) => {
             let place = named_place(message, i, j);
-            refuse(15, place, given)
+            Verdict::Refused(15, place)
         }
+    }
+}
+
+// The verdict on the elements of a message, and the table that they leave.
+fn read_elements(message: &[u8]) -> Reading
+    ensures { λ r. ⌜ ReadsAs (now (message .entry)) r ⌝ }
+{
+    let mut carried = [0u16; 32];
+    let taken = take_up(message, &mut carried);
+    let table = taken.table;
+    if taken.bad != 0 {
+        let verdict = Verdict::Refused(taken.bad, taken.off);
+        return Reading { verdict, table };
+    }
+    let verdict = last_test(message, table, &carried);
+    Reading { verdict, table }
+}
+
+// Reads the message: 3, then its elements. After a refusal the given table is handed back.
+pub fn read_table(given: Table, message: &[u8]) -> Reading
+    ensures { λ r. ⌜ r ≡ readTable given (now (message .entry)) ⌝ }
+{
+    if MESSAGE_BYTES < message.len() {
+        return refuse(3, 0, given);
+    }
+    let reading = read_elements(message);
+    let verdict = reading.verdict;
+    match verdict {
+        Verdict::Accepted => reading,
+        Verdict::Refused(number, offset) => refuse(number, offset, given),
     }
 }

@@ -10,7 +10,7 @@ use borrow.Author.Tests.{ne-eqb}
 use Rattle.contents.specs.Rows.{rowFold, rowIn}
 use Rattle.table.specs.Table.{emptyClassifier}
 use Rattle.contents.specs.Classifiers.{withClassifierChild}
-use Rattle.contents.proofs.Laws.{item-fits, fold-stop, fold-item}
+use Rattle.contents.proofs.Laws.{item-fits, item-less, fold-stop, fold-item}
 use Rattle.contents.proofs.classifier_in.Statement.{statement}
 use Rattle.contents.proofs.classifier_in.Tie as tie
 
@@ -51,13 +51,13 @@ classifier-in-spec =
     (λ c. let fits = item-fits _ _ _ (c .before .before .before .before .read-head .ensures) (c .before .before .len .given .1) in omega arith)
     (λ c. let fits = item-fits _ _ _ (c .before .before .before .before .read-head .ensures) (c .before .before .len .given .1) in omega arith)
     (λ c κs. search needs)
-    (λ c. let fits = item-fits _ _ _ (c .before .before .before .before .before .before .read-head .ensures) (c .before .before .before .before .len .given .1) in omega arith)
+    (λ c. item-less _ _ _ (c .before .before .before .before .before .before .read-head .ensures) (c .before .before .before .before .len .given .1))
     loop-again
     (λ c κs. search needs)
-    (λ c. let fits = item-fits _ _ _ (c .before .before .before .before .before .before .read-head .ensures) (c .before .before .before .before .len .given .1) in omega arith)
+    (λ c. item-less _ _ _ (c .before .before .before .before .before .before .read-head .ensures) (c .before .before .before .before .len .given .1))
     loop-again-2
     (λ c κs. search needs)
-    (λ c. let fits = item-fits _ _ _ (c .before .before .before .before .before .before .read-head .ensures) (c .before .before .before .before .len .given .1) in omega arith)
+    (λ c. item-less _ _ _ (c .before .before .before .before .before .before .read-head .ensures) (c .before .before .before .before .len .given .1))
     loop-again-3
-    (λ c. let fits = item-fits _ _ _ (c .before .before .before .before .before .read-head .ensures) (c .before .before .before .len .given .1) in omega arith)
+    (λ c. item-less _ _ _ (c .before .before .before .before .before .read-head .ensures) (c .before .before .before .len .given .1))
     loop-again-4)

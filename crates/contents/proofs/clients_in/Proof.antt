@@ -1,15 +1,16 @@
 -- `contents::clients_in` gives clientsIn.
--- The loop keeps that the fold from `at` on, over what it has, is the fold from the start. Every arm is one more step of that fold; what is left falls.
+-- The loop keeps that the fold from `at` on, over what it has, is the fold from the start. Every turn is one more step of that fold; what is left falls.
 -- Trusts: nothing.
 use borrow.Author.Needs.{needs}
 use Prim.Native.Nat.{ℕ, _-_}
 use mathlib.Core.Path.{_≡_, refl, sym, ap, _∙_}
 use mathlib.Core.Logic.{⊎-elim}
 use native.Mathlib.Omega.{arith}
-use borrow.Author.Tests.{lt-ltb, le-ltb, eq-eqb, ne-eqb}
+use borrow.Author.Tests.{not-true, not-false}
 use Rattle.contents.specs.Rows.{rowFold, rowIn}
-use Rattle.contents.specs.Rules.{withClient, withClientChild, clientsIn}
-use Rattle.contents.proofs.Laws.{item-fits, fold-stop, fold-item}
+use Rattle.contents.specs.Rules.{withClientChild, clientsIn}
+use Rattle.contents.proofs.Laws.{item-fits, item-less, fold-stop, fold-item}
+use Rattle.contents.proofs.LawsRules.{no-client-child, with-client-child, full-client-child}
 use Rattle.contents.proofs.clients_in.Statement.{statement}
 use Rattle.contents.proofs.clients_in.Tie as tie
 
@@ -21,23 +22,7 @@ abbrev μ-loop : tie.MeasureT-loop
 
 loop-holds : tie.Need-loop-holds Inv-loop μ-loop
 unfolding clientsIn
-loop-holds c = simp (c .empty-client .ensures)
-
-loop-again : tie.Need-loop-again Inv-loop μ-loop
-unfolding withClientChild
-loop-again c = fold-item _ _ _ _ _ (c .before .before .before .before .before .read-head .ensures) (c .before .before .before .len .given .1) (simp (lt-ltb _ _ (c .if1 .taken))) ∙ c .before .before .before .before .before .before .loop .inv
-
-loop-again-2 : tie.Need-loop-again-2 Inv-loop μ-loop
-unfolding withClientChild
-loop-again-2 c = fold-item _ _ _ _ _ (c .before .before .before .before .before .before .read-head .ensures) (c .before .before .before .before .len .given .1) (simp (le-ltb _ _ (c .before .if1 .left), eq-eqb _ _ (c .if2 .taken))) ∙ c .before .before .before .before .before .before .before .loop .inv
-
-loop-again-3 : tie.Need-loop-again-3 Inv-loop μ-loop
-unfolding withClientChild withClient
-loop-again-3 c = fold-item _ _ _ _ _ (c .before .before .before .before .before .before .before .before .read-head .ensures) (c .before .before .before .before .before .before .len .given .1) (simp (le-ltb _ _ (c .before .before .before .if1 .left), ne-eqb _ _ (c .before .before .if2 .left), lt-ltb _ _ (c .before .if3 .taken), c .client-at .ensures)) ∙ c .before .before .before .before .before .before .before .before .before .loop .inv
-
-loop-again-4 : tie.Need-loop-again-4 Inv-loop μ-loop
-unfolding withClientChild withClient
-loop-again-4 c = fold-item _ _ _ _ _ (c .before .before .before .before .before .before .before .read-head .ensures) (c .before .before .before .before .before .len .given .1) (simp (le-ltb _ _ (c .before .before .if1 .left), ne-eqb _ _ (c .before .if2 .left), le-ltb _ _ (c .if3 .left))) ∙ c .before .before .before .before .before .before .before .before .loop .inv
+loop-holds c = simp (c .no-clients .ensures)
 
 pub clients-in-spec : {M : Type 1} → statement M
 clients-in-spec =
@@ -50,19 +35,18 @@ clients-in-spec =
     (λ c κs. search needs)
     (λ c. search needs)
     (λ c. fold-stop _ _ _ _ _ (c .before .read-head .ensures) (λ len v. ⊎-elim (λ (z : _≡_ {A = ℕ} 2 0). omega arith) (λ (z : _≡_ {A = ℕ} 2 1). omega arith) (rw v at (c .match .keys2))) ∙ c .before .before .loop .inv)
+    (λ c. let fits = item-fits _ _ _ (c .before .before .before .read-head .ensures) (c .before .len .given .1) in omega arith)
+    (λ c. let fits = item-fits _ _ _ (c .before .before .before .read-head .ensures) (c .before .len .given .1) in omega arith)
     (λ c. let fits = item-fits _ _ _ (c .before .before .before .before .read-head .ensures) (c .before .before .len .given .1) in omega arith)
-    (λ c. let fits = item-fits _ _ _ (c .before .before .before .before .read-head .ensures) (c .before .before .len .given .1) in omega arith)
-    (λ c. let fits = item-fits _ _ _ (c .before .before .before .before .read-head .ensures) (c .before .before .len .given .1) in omega arith)
-    (λ c. let fits = item-fits _ _ _ (c .before .before .before .before .before .read-head .ensures) (c .before .before .before .len .given .1) in omega arith)
-    loop-again
-    (λ c. let fits = item-fits _ _ _ (c .before .before .before .before .before .before .read-head .ensures) (c .before .before .before .before .len .given .1) in omega arith)
-    loop-again-2
+    (λ c κs. search needs)
+    (λ c. item-less _ _ _ (c .before .before .before .before .before .before .read-head .ensures) (c .before .before .before .before .len .given .1))
+    (λ c. fold-item _ _ _ _ _ (c .before .before .before .before .before .before .read-head .ensures) (c .before .before .before .before .len .given .1) (no-client-child _ _ _ _ (c .before .is-client .ensures) (not-true _ (c .if1 .taken))) ∙ c .before .before .before .before .before .before .before .loop .inv)
     (λ c κs. let fits = item-fits _ _ _ (c .before .before .before .before .before .before .before .read-head .ensures) (c .before .before .before .before .before .len .given .1) in omega arith)
     (λ c. search needs)
     (λ c. search needs)
     (λ c. search needs)
     (λ c. search needs)
-    (λ c. let fits = item-fits _ _ _ (c .before .before .before .before .before .before .before .before .read-head .ensures) (c .before .before .before .before .before .before .len .given .1) in omega arith)
-    loop-again-3
-    (λ c. let fits = item-fits _ _ _ (c .before .before .before .before .before .before .before .read-head .ensures) (c .before .before .before .before .before .len .given .1) in omega arith)
-    loop-again-4)
+    (λ c. item-less _ _ _ (c .before .before .before .before .before .before .before .before .read-head .ensures) (c .before .before .before .before .before .before .len .given .1))
+    (λ c. fold-item _ _ _ _ _ (c .before .before .before .before .before .before .before .before .read-head .ensures) (c .before .before .before .before .before .before .len .given .1) (with-client-child _ _ _ _ (c .before .before .before .is-client .ensures) (not-false _ (c .before .before .if1 .left)) (c .before .if2 .taken) (c .client-at .ensures)) ∙ c .before .before .before .before .before .before .before .before .before .loop .inv)
+    (λ c. item-less _ _ _ (c .before .before .before .before .before .before .before .read-head .ensures) (c .before .before .before .before .before .len .given .1))
+    (λ c. fold-item _ _ _ _ _ (c .before .before .before .before .before .before .before .read-head .ensures) (c .before .before .before .before .before .len .given .1) (full-client-child _ _ _ _ (c .before .before .is-client .ensures) (not-false _ (c .before .if1 .left)) (c .if2 .left)) ∙ c .before .before .before .before .before .before .before .before .loop .inv))

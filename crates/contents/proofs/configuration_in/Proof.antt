@@ -1,15 +1,15 @@
 -- `contents::configuration_in` gives the fold of withConfigurationChild.
--- The loop keeps that the fold from `at` on, over what it has, is the fold from the start. Every arm is one more step of that fold; what is left falls.
+-- The loop keeps that the fold from `at` on, over what it has, is the fold from the start. Every turn is one more step of that fold; what is left falls.
 -- Trusts: nothing.
 use borrow.Author.Needs.{needs}
 use Prim.Native.Nat.{ℕ, _-_}
 use mathlib.Core.Path.{_≡_, refl, sym, ap, _∙_}
 use mathlib.Core.Logic.{⊎-elim}
 use native.Mathlib.Omega.{arith}
-use borrow.Author.Tests.{lt-ltb, le-ltb, ne-eqb}
 use Rattle.contents.specs.Rows.{rowFold, rowIn}
-use Rattle.contents.specs.Configurations.{emptyConfiguration, withChannel, withConfigurationChild}
-use Rattle.contents.proofs.Laws.{item-fits, fold-stop, fold-item}
+use Rattle.contents.specs.Configurations.{emptyConfiguration, withConfigurationChild}
+use Rattle.contents.proofs.Laws.{item-fits, item-less, fold-stop, fold-item}
+use Rattle.contents.proofs.LawsConfigurations.{with-timer-child, with-channel-child, full-channel-child}
 use Rattle.contents.proofs.configuration_in.Statement.{statement}
 use Rattle.contents.proofs.configuration_in.Tie as tie
 
@@ -18,34 +18,6 @@ Inv-loop message from end configuration₀ at₀ configuration at = rowFold (wit
 
 abbrev μ-loop : tie.MeasureT-loop
 μ-loop message from end configuration₀ at₀ configuration at = end - at
-
-loop-again : tie.Need-loop-again Inv-loop μ-loop
-unfolding withConfigurationChild withChannel
-loop-again c = fold-item _ _ _ _ _ (c .before .before .before .before .before .before .before .read-head .ensures) (c .before .before .before .before .before .len .given .1) (simp (c .before .before .match2 .keys1, lt-ltb _ _ (c .before .if1 .taken), c .number4 .ensures)) ∙ c .before .before .before .before .before .before .before .before .loop .inv
-
-loop-again-2 : tie.Need-loop-again-2 Inv-loop μ-loop
-unfolding withConfigurationChild withChannel
-loop-again-2 c = fold-item _ _ _ _ _ (c .before .before .before .before .before .before .read-head .ensures) (c .before .before .before .before .len .given .1) (simp (c .before .match2 .keys1, le-ltb _ _ (c .if1 .left))) ∙ c .before .before .before .before .before .before .before .loop .inv
-
-loop-again-3 : tie.Need-loop-again-3 Inv-loop μ-loop
-unfolding withConfigurationChild
-loop-again-3 c = fold-item _ _ _ _ _ (c .before .before .before .before .before .before .before .read-head .ensures) (c .before .before .before .before .before .len .given .1) (simp (c .before .before .match2 .keys2, c .before .number2 .ensures)) ∙ c .before .before .before .before .before .before .before .before .loop .inv
-
-loop-again-4 : tie.Need-loop-again-4 Inv-loop μ-loop
-unfolding withConfigurationChild
-loop-again-4 c = fold-item _ _ _ _ _ (c .before .before .before .before .before .before .before .read-head .ensures) (c .before .before .before .before .before .len .given .1) (simp (c .before .before .match2 .keys3, c .before .number22 .ensures)) ∙ c .before .before .before .before .before .before .before .before .loop .inv
-
-loop-again-5 : tie.Need-loop-again-5 Inv-loop μ-loop
-unfolding withConfigurationChild
-loop-again-5 c = fold-item _ _ _ _ _ (c .before .before .before .before .before .before .before .read-head .ensures) (c .before .before .before .before .before .len .given .1) (simp (c .before .before .match2 .keys4, c .before .number23 .ensures)) ∙ c .before .before .before .before .before .before .before .before .loop .inv
-
-loop-again-6 : tie.Need-loop-again-6 Inv-loop μ-loop
-unfolding withConfigurationChild
-loop-again-6 c = fold-item _ _ _ _ _ (c .before .before .before .before .before .before .before .read-head .ensures) (c .before .before .before .before .before .len .given .1) (simp (c .before .before .match2 .keys5, c .before .number24 .ensures)) ∙ c .before .before .before .before .before .before .before .before .loop .inv
-
-loop-again-7 : tie.Need-loop-again-7 Inv-loop μ-loop
-unfolding withConfigurationChild
-loop-again-7 c = fold-item _ _ _ _ _ (c .before .before .before .before .before .read-head .ensures) (c .before .before .before .len .given .1) (simp (ne-eqb _ _ (c .match2 .rest .0 .0 .0 .0 .1), ne-eqb _ _ (c .match2 .rest .0 .0 .0 .1), ne-eqb _ _ (c .match2 .rest .0 .0 .1), ne-eqb _ _ (c .match2 .rest .0 .1), ne-eqb _ _ (c .match2 .rest .1))) ∙ c .before .before .before .before .before .before .loop .inv
 
 pub configuration-in-spec : {M : Type 1} → statement M
 configuration-in-spec =
@@ -58,29 +30,19 @@ configuration-in-spec =
     (λ c κs. search needs)
     (λ c. search needs)
     (λ c. fold-stop _ _ _ _ _ (c .before .read-head .ensures) (λ len v. ⊎-elim (λ (z : _≡_ {A = ℕ} 2 0). omega arith) (λ (z : _≡_ {A = ℕ} 2 1). omega arith) (rw v at (c .match .keys2))) ∙ c .before .before .loop .inv)
+    (λ c. let fits = item-fits _ _ _ (c .before .before .before .read-head .ensures) (c .before .len .given .1) in omega arith)
+    (λ c. let fits = item-fits _ _ _ (c .before .before .before .read-head .ensures) (c .before .len .given .1) in omega arith)
     (λ c. let fits = item-fits _ _ _ (c .before .before .before .before .read-head .ensures) (c .before .before .len .given .1) in omega arith)
-    (λ c. let fits = item-fits _ _ _ (c .before .before .before .before .read-head .ensures) (c .before .before .len .given .1) in omega arith)
-    (λ c. let fits = item-fits _ _ _ (c .before .before .before .before .read-head .ensures) (c .before .before .len .given .1) in omega arith)
-    (λ c κs. search needs)
-    (λ c. search needs)
-    (λ c. search needs)
-    (λ c. search needs)
-    (λ c. search needs)
-    (λ c. let fits = item-fits _ _ _ (c .before .before .before .before .before .before .before .read-head .ensures) (c .before .before .before .before .before .len .given .1) in omega arith)
-    loop-again
+    (λ c κs. let fits = item-fits _ _ _ (c .before .before .before .before .before .before .read-head .ensures) (c .before .before .before .before .len .given .1) in omega arith)
+    (λ c. item-less _ _ _ (c .before .before .before .before .before .before .before .read-head .ensures) (c .before .before .before .before .before .len .given .1))
+    (λ c. fold-item _ _ _ _ _ (c .before .before .before .before .before .before .before .read-head .ensures) (c .before .before .before .before .before .len .given .1) (with-timer-child _ _ _ _ (c .before .before .if1 .taken) (c .with-timer .ensures)) ∙ c .before .before .before .before .before .before .before .before .loop .inv)
     (λ c. let fits = item-fits _ _ _ (c .before .before .before .before .before .before .read-head .ensures) (c .before .before .before .before .len .given .1) in omega arith)
-    loop-again-2
     (λ c κs. search needs)
-    (λ c. let fits = item-fits _ _ _ (c .before .before .before .before .before .before .before .read-head .ensures) (c .before .before .before .before .before .len .given .1) in omega arith)
-    loop-again-3
-    (λ c κs. search needs)
-    (λ c. let fits = item-fits _ _ _ (c .before .before .before .before .before .before .before .read-head .ensures) (c .before .before .before .before .before .len .given .1) in omega arith)
-    loop-again-4
-    (λ c κs. search needs)
-    (λ c. let fits = item-fits _ _ _ (c .before .before .before .before .before .before .before .read-head .ensures) (c .before .before .before .before .before .len .given .1) in omega arith)
-    loop-again-5
-    (λ c κs. search needs)
-    (λ c. let fits = item-fits _ _ _ (c .before .before .before .before .before .before .before .read-head .ensures) (c .before .before .before .before .before .len .given .1) in omega arith)
-    loop-again-6
-    (λ c. let fits = item-fits _ _ _ (c .before .before .before .before .before .read-head .ensures) (c .before .before .before .len .given .1) in omega arith)
-    loop-again-7)
+    (λ c. search needs)
+    (λ c. search needs)
+    (λ c. search needs)
+    (λ c. search needs)
+    (λ c. item-less _ _ _ (c .before .before .before .before .before .before .before .read-head .ensures) (c .before .before .before .before .before .len .given .1))
+    (λ c. fold-item _ _ _ _ _ (c .before .before .before .before .before .before .before .read-head .ensures) (c .before .before .before .before .before .len .given .1) (with-channel-child _ _ _ _ (c .before .before .if1 .left) (c .before .if2 .taken) (c .number4 .ensures)) ∙ c .before .before .before .before .before .before .before .before .loop .inv)
+    (λ c. item-less _ _ _ (c .before .before .before .before .before .before .read-head .ensures) (c .before .before .before .before .len .given .1))
+    (λ c. fold-item _ _ _ _ _ (c .before .before .before .before .before .before .read-head .ensures) (c .before .before .before .before .len .given .1) (full-channel-child _ _ _ _ (c .before .if1 .left) (c .if2 .left)) ∙ c .before .before .before .before .before .before .before .loop .inv))

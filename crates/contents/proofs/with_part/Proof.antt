@@ -1,15 +1,14 @@
 -- `contents::with_part` gives withPart.
--- The loop keeps that the fold from `at` on, over what it has, is the fold from the start. Every arm is one more step of that fold; what is left falls.
+-- The loop keeps that the fold from `at` on, over what it has, is the fold from the start. Every turn is one more step of that fold; what is left falls.
 -- Trusts: nothing.
 use borrow.Author.Needs.{needs}
 use Prim.Native.Nat.{ℕ, _-_}
 use mathlib.Core.Path.{_≡_, refl, sym, ap, _∙_}
 use mathlib.Core.Logic.{⊎-elim}
 use native.Mathlib.Omega.{arith}
-use borrow.Author.Tests.{ne-eqb}
 use Rattle.contents.specs.Rows.{rowFold, rowIn}
 use Rattle.contents.specs.Classifiers.{withPartChild, withPart}
-use Rattle.contents.proofs.Laws.{item-fits, fold-stop, fold-item}
+use Rattle.contents.proofs.Laws.{item-fits, item-less, fold-stop, fold-item}
 use Rattle.contents.proofs.with_part.Statement.{statement}
 use Rattle.contents.proofs.with_part.Tie as tie
 
@@ -23,30 +22,6 @@ loop-holds : tie.Need-loop-holds Inv-loop μ-loop
 unfolding withPart
 loop-holds c = refl
 
-loop-again : tie.Need-loop-again Inv-loop μ-loop
-unfolding withPartChild
-loop-again c = fold-item _ _ _ _ _ (c .before .before .before .before .before .before .read-head .ensures) (c .before .before .before .before .len .given .1) (simp (c .before .match2 .keys1, c .number4 .ensures)) ∙ c .before .before .before .before .before .before .before .loop .inv
-
-loop-again-2 : tie.Need-loop-again-2 Inv-loop μ-loop
-unfolding withPartChild
-loop-again-2 c = fold-item _ _ _ _ _ (c .before .before .before .before .before .before .read-head .ensures) (c .before .before .before .before .len .given .1) (simp (c .before .match2 .keys2, c .number42 .ensures)) ∙ c .before .before .before .before .before .before .before .loop .inv
-
-loop-again-3 : tie.Need-loop-again-3 Inv-loop μ-loop
-unfolding withPartChild
-loop-again-3 c = fold-item _ _ _ _ _ (c .before .before .before .before .before .before .read-head .ensures) (c .before .before .before .before .len .given .1) (simp (c .before .match2 .keys3, c .number43 .ensures)) ∙ c .before .before .before .before .before .before .before .loop .inv
-
-loop-again-4 : tie.Need-loop-again-4 Inv-loop μ-loop
-unfolding withPartChild
-loop-again-4 c = fold-item _ _ _ _ _ (c .before .before .before .before .before .before .read-head .ensures) (c .before .before .before .before .len .given .1) (simp (c .before .match2 .keys4, c .number2 .ensures)) ∙ c .before .before .before .before .before .before .before .loop .inv
-
-loop-again-5 : tie.Need-loop-again-5 Inv-loop μ-loop
-unfolding withPartChild
-loop-again-5 c = fold-item _ _ _ _ _ (c .before .before .before .before .before .before .read-head .ensures) (c .before .before .before .before .len .given .1) (simp (c .before .match2 .keys5, c .number22 .ensures)) ∙ c .before .before .before .before .before .before .before .loop .inv
-
-loop-again-6 : tie.Need-loop-again-6 Inv-loop μ-loop
-unfolding withPartChild
-loop-again-6 c = fold-item _ _ _ _ _ (c .before .before .before .before .before .read-head .ensures) (c .before .before .before .len .given .1) (simp (ne-eqb _ _ (c .match2 .rest .0 .0 .0 .0 .1), ne-eqb _ _ (c .match2 .rest .0 .0 .0 .1), ne-eqb _ _ (c .match2 .rest .0 .0 .1), ne-eqb _ _ (c .match2 .rest .0 .1), ne-eqb _ _ (c .match2 .rest .1))) ∙ c .before .before .before .before .before .before .loop .inv
-
 pub with-part-spec : {M : Type 1} → statement M
 with-part-spec =
     tie.close
@@ -57,23 +32,8 @@ with-part-spec =
     (λ c κs. search needs)
     (λ c. search needs)
     (λ c. fold-stop _ _ _ _ _ (c .before .read-head .ensures) (λ len v. ⊎-elim (λ (z : _≡_ {A = ℕ} 2 0). omega arith) (λ (z : _≡_ {A = ℕ} 2 1). omega arith) (rw v at (c .match .keys2))) ∙ c .before .before .loop .inv)
+    (λ c κs. let fits = item-fits _ _ _ (c .before .before .before .read-head .ensures) (c .before .len .given .1) in omega arith)
     (λ c. let fits = item-fits _ _ _ (c .before .before .before .before .read-head .ensures) (c .before .before .len .given .1) in omega arith)
     (λ c. let fits = item-fits _ _ _ (c .before .before .before .before .read-head .ensures) (c .before .before .len .given .1) in omega arith)
-    (λ c. let fits = item-fits _ _ _ (c .before .before .before .before .read-head .ensures) (c .before .before .len .given .1) in omega arith)
-    (λ c κs. search needs)
-    (λ c. let fits = item-fits _ _ _ (c .before .before .before .before .before .before .read-head .ensures) (c .before .before .before .before .len .given .1) in omega arith)
-    loop-again
-    (λ c κs. search needs)
-    (λ c. let fits = item-fits _ _ _ (c .before .before .before .before .before .before .read-head .ensures) (c .before .before .before .before .len .given .1) in omega arith)
-    loop-again-2
-    (λ c κs. search needs)
-    (λ c. let fits = item-fits _ _ _ (c .before .before .before .before .before .before .read-head .ensures) (c .before .before .before .before .len .given .1) in omega arith)
-    loop-again-3
-    (λ c κs. search needs)
-    (λ c. let fits = item-fits _ _ _ (c .before .before .before .before .before .before .read-head .ensures) (c .before .before .before .before .len .given .1) in omega arith)
-    loop-again-4
-    (λ c κs. search needs)
-    (λ c. let fits = item-fits _ _ _ (c .before .before .before .before .before .before .read-head .ensures) (c .before .before .before .before .len .given .1) in omega arith)
-    loop-again-5
-    (λ c. let fits = item-fits _ _ _ (c .before .before .before .before .before .read-head .ensures) (c .before .before .before .len .given .1) in omega arith)
-    loop-again-6)
+    (λ c. item-less _ _ _ (c .before .before .before .before .read-head .ensures) (c .before .before .len .given .1))
+    (λ c. fold-item _ _ _ _ _ (c .before .before .before .before .read-head .ensures) (c .before .before .len .given .1) (c .with-part-child .ensures) ∙ c .before .before .before .before .before .loop .inv))

@@ -1,0 +1,18 @@
+-- `reader::is_taken` gives isListed, and stores the number where there is a place; a store past the end is none.
+-- Trusts: nothing.
+use borrow.Author.Needs.{needs}
+use mathlib.Core.Path.{sym}
+use native.Mathlib.Omega.{arith}
+use lib.Seq.{set-out}
+use Rattle.reader.proofs.is_taken.Statement.{statement}
+use Rattle.reader.proofs.is_taken.Tie as tie
+
+pub is-taken-spec : {M : Type 1} → statement M
+is-taken-spec =
+    tie.close
+    (tie.spec
+    (λ c κs. search needs)
+    (λ c. search needs)
+    (λ c. search needs)
+    (λ c. search needs)
+    (λ c. (c .before .is-listed .ensures, sym (set-out _ _ _ (omega (arith, c .before .before .before .pre .1))))))

@@ -1,0 +1,15 @@
+-- `reader::read_elements`: a refusal of 6 to 14 stands; else test 15 gives the verdict.
+-- Trusts: nothing.
+use borrow.Author.Needs.{needs}
+use Rattle.reader.proofs.LawsSteps.{reads-refused, reads-last}
+use Rattle.reader.proofs.read_elements.Statement.{statement}
+use Rattle.reader.proofs.read_elements.Tie as tie
+
+pub read-elements-spec : {M : Type 1} → statement M
+read-elements-spec =
+    tie.close
+    (tie.spec
+    (λ c κs. search needs)
+    (λ c. reads-refused _ (c .before .before .before .take-up .ensures) (c .if1 .taken))
+    (λ c κs. c .before .before .before .before .take-up .ensures .carries (c .before .if1 .left))
+    (λ c. reads-last _ (c .before .before .before .before .before .take-up .ensures) (c .before .before .if1 .left) (c .last-test .ensures)))
