@@ -10,20 +10,20 @@ use mathlib.Core.Bool.{Bool, true, false, cond, not, _&&_, _||_}
 use mathlib.Core.List.{List}
 use Prim.Native.Nat.{ℕ}
 use lib.Bits.{bitAnd, and-zero-r}
-use lib.Dec.{eqb, leb}
+use lib.Dec.{eqb}
 use Rattle.table.specs.declared.Classifier.{Classifier}
 use Rattle.table.specs.Table.{isPresent}
 use Rattle.tunnel.specs.declared.Packet.{Packet}
 use Rattle.tunnel.specs.declared.Entry.{Entry}
-use Rattle.tunnel.specs.Match.{isIpv4, hasPort, sourceAt, destinationAt, portAt, portWithin, maskOf, startOf, endOf, fitsSource, fitsPort, matchesFrame}
+use Rattle.tunnel.specs.Match.{isIpv4, sourceAt, destinationAt, portWithin, maskOf, startOf, endOf, fitsSource, fitsPort, matchesFrame}
 use Rattle.tunnel.specs.Entry.{packetOf, entryOf, fitsPacket, matchesEntry}
 
 -- the packet of an IPv4 frame, and of any other
 abbrev full : List ℕ → Packet
-full frame = record { ipv4 = true; ported = hasPort frame; port = cond (hasPort frame) (portAt frame) 0; destination = destinationAt frame; source = sourceAt frame }
+full frame = record { ipv4 = true; destination = destinationAt frame; source = sourceAt frame }
 
 abbrev none : Packet
-none = record { ipv4 = false; ported = false; port = 0; destination = 0; source = 0 }
+none = record { ipv4 = false; destination = 0; source = 0 }
 
 pub packetOf-ipv4 : (frame : List ℕ) → packetOf frame .ipv4 ≡ isIpv4 frame
 unfolding packetOf
@@ -34,7 +34,7 @@ packetOf-ipv4 frame = go (isIpv4 frame)
     go false = refl
 
 module _ (frame : List ℕ) (p : Packet) (e : p ≡ packetOf frame) where
-  pub matchesEntry-ipv4 : p .ipv4 ≡ true → (en : Entry) → matchesEntry frame en ≡ fitsPacket p en
+  pub matchesEntry-ipv4 : p .ipv4 ≡ true → (en : Entry) → matchesEntry frame en ≡ fitsPacket frame p en
   unfolding matchesEntry
   matchesEntry-ipv4 h en = rw (← e, h)
 
@@ -56,15 +56,6 @@ source-of frame cl = go (eqb (cl .hassource) 0)
     go true = rw (and-zero-r (sourceAt frame))
     go false = refl
 
--- a port is looked at only where there is one
-port-of : (frame : List ℕ) (start end : ℕ) → hasPort frame && (leb start (cond (hasPort frame) (portAt frame) 0) && leb (cond (hasPort frame) (portAt frame) 0) end) ≡ portWithin frame start end
-unfolding portWithin
-port-of frame start end = go (hasPort frame)
-  where
-    go : (b : Bool) → b && (leb start (cond b (portAt frame) 0) && leb (cond b (portAt frame) 0) end) ≡ b && (leb start (portAt frame) && leb (portAt frame) end)
-    go true = refl
-    go false = refl
-
 ports-of : (frame : List ℕ) (cl : Classifier) → not (isPresent (entryOf cl .ports)) || portWithin frame (entryOf cl .start) (entryOf cl .end) ≡ fitsPort frame cl
 unfolding entryOf fitsPort
 ports-of frame cl = go (isPresent (cl .hasstart) || isPresent (cl .hasend))
@@ -77,19 +68,19 @@ both : {a b c d : Bool} → a ≡ b → c ≡ d → a && c ≡ b && d
 both e f = rw (e, f)
 
 -- of an IPv4 packet
-inner : (frame : List ℕ) (cl : Classifier) → fitsPacket (full frame) (entryOf cl)
+inner : (frame : List ℕ) (cl : Classifier) → fitsPacket frame (full frame) (entryOf cl)
     ≡ eqb (destinationAt frame) (cl .destination) && (fitsSource frame cl && fitsPort frame cl)
 unfolding fitsPacket entryOf
 inner frame cl =
     ap (λ (b : Bool). eqb (destinationAt frame) (cl .destination) && b)
-    (both (source-of frame cl) (ap (λ (b : Bool). not (isPresent (entryOf cl .ports)) || b) (port-of frame (entryOf cl .start) (entryOf cl .end)) ∙ ports-of frame cl))
+    (both (source-of frame cl) (ports-of frame cl))
 
 pub matchesEntry-of : (frame : List ℕ) (cl : Classifier) → matchesEntry frame (entryOf cl) ≡ matchesFrame frame cl
 unfolding matchesEntry matchesFrame packetOf
 matchesEntry-of frame cl = go (isIpv4 frame)
   where
     go : (b : Bool) → cond b (full frame) none .ipv4
-        && fitsPacket (cond b (full frame) none) (entryOf cl)
+        && fitsPacket frame (cond b (full frame) none) (entryOf cl)
         ≡ b && (eqb (destinationAt frame) (cl .destination) && (fitsSource frame cl && fitsPort frame cl))
     go true = inner frame cl
     go false = refl

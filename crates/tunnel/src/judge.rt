@@ -51,14 +51,21 @@ pub fn names_number(rule: Rule, number: u16) -> bool
 }
 
 // The best so far after the classifier at place `at`.
-fn take_classifier(best: Best, at: usize, rule: Rule, cl: Classifier, packet: Packet) -> Best
-    ensures { λ r. ⌜ r ≡ bestAfter best at (cl .priority) (cl .number) (fitsPacket packet (entryOf cl) && namesNumber rule (cl .number)) ⌝ }
+fn take_classifier(
+    best: Best,
+    at: usize,
+    rule: Rule,
+    cl: Classifier,
+    packet: Packet,
+    frame: &[u8],
+) -> Best
+    ensures { λ r. ⌜ r ≡ bestAfter best at (cl .priority) (cl .number) (fitsPacket (now (frame .entry)) packet (entryOf cl) && namesNumber rule (cl .number)) ⌝ }
 {
     if !is_better(best, cl.priority, cl.number) {
         return best;
     }
     let e = entry_of(cl);
-    if !fits_packet(e, packet) {
+    if !fits_packet(e, packet, frame) {
         return best;
     }
     if !names_number(rule, cl.number) {
@@ -88,7 +95,7 @@ fn match_place(table: Table, rule: Rule, frame: &[u8]) -> usize
     let mut i: usize = 0;
     while i < n {
         let cl = table.classifiers[i];
-        best = take_classifier(best, i, rule, cl, packet);
+        best = take_classifier(best, i, rule, cl, packet, frame);
         i += 1;
     }
     let place = best.place;

@@ -28,11 +28,9 @@ pub enum Verdict {
     Filtered,
 }
 
-// What the classifiers look at in a frame: whether it is an IPv4 packet and has a port, the port, the addresses.
+// What every classifier looks at in a frame: whether it is an IPv4 packet, and its addresses.
 pub struct Packet {
     pub ipv4: bool,
-    pub ported: bool,
-    pub port: u16,
     pub destination: u32,
     pub source: u32,
 }

@@ -5,7 +5,7 @@ use table::Classifier;
 use wire::number2;
 use wire::number4;
 ghost use mathlib.Core.Path.{_≡_};
-ghost use Rattle.tunnel.specs.Match.{isIpv4, hasPort, presentOr};
+ghost use Rattle.tunnel.specs.Match.{isIpv4, hasPort, portWithin, presentOr};
 ghost use Rattle.tunnel.specs.Entry.{portsOf, entryOf, packetOf, fitsPacket};
 
 // Whether the frame is an IPv4 packet of 34 bytes or more.
@@ -38,35 +38,35 @@ fn has_port(frame: &[u8]) -> bool
     protocol == 17
 }
 
-// What the classifiers look at in the frame; 0 throughout where it is no IPv4 packet.
+// Whether the packet has a port, from `start` to `end`.
+fn port_within(frame: &[u8], start: u16, end: u16) -> bool
+    ensures { λ r. ⌜ r ≡ portWithin (now (frame .entry)) start end ⌝ }
+{
+    if !has_port(frame) {
+        return false;
+    }
+    let port = number2(frame, 36);
+    if port < start {
+        return false;
+    }
+    port <= end
+}
+
+// What every classifier looks at in the frame; 0 throughout where it is no IPv4 packet.
 pub fn read_packet(frame: &[u8]) -> Packet
     ensures { λ r. ⌜ r ≡ packetOf (now (frame .entry)) ⌝ }
 {
     if !is_ipv4(frame) {
         return Packet {
             ipv4: false,
-            ported: false,
-            port: 0,
             destination: 0,
             source: 0,
         };
     }
     let destination = number4(frame, 30);
     let source = number4(frame, 26);
-    if !has_port(frame) {
-        return Packet {
-            ipv4: true,
-            ported: false,
-            port: 0,
-            destination,
-            source,
-        };
-    }
-    let port = number2(frame, 36);
     Packet {
         ipv4: true,
-        ported: true,
-        port,
         destination,
         source,
     }
@@ -112,9 +112,9 @@ pub fn entry_of(cl: Classifier) -> Entry
     }
 }
 
-// Whether an IPv4 packet fits the entry.
-pub fn fits_packet(e: Entry, p: Packet) -> bool
-    ensures { λ r. ⌜ r ≡ fitsPacket p e ⌝ }
+// Whether an IPv4 packet fits the entry. The port is looked for only where the addresses fit.
+pub fn fits_packet(e: Entry, p: Packet, frame: &[u8]) -> bool
+    ensures { λ r. ⌜ r ≡ fitsPacket (now (frame .entry)) p e ⌝ }
 {
     if p.destination != e.destination {
         return false;
@@ -125,11 +125,5 @@ pub fn fits_packet(e: Entry, p: Packet) -> bool
     if e.ports == 0 {
         return true;
     }
-    if !p.ported {
-        return false;
-    }
-    if p.port < e.start {
-        return false;
-    }
-    p.port <= e.end
+    port_within(frame, e.start, e.end)
 }

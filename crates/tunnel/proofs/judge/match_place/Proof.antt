@@ -26,15 +26,15 @@ use Rattle.tunnel.proofs.judge.match_place.Statement.{statement}
 use Rattle.tunnel.proofs.judge.match_place.Tie as tie
 
 -- what a classifier must pass: the packet and the rule
-abbrev passes : Packet → Rule → Classifier → Bool
-passes packet rule cl = fitsPacket packet (entryOf cl) && namesNumber rule (cl .number)
+abbrev passes : List ℕ → Packet → Rule → Classifier → Bool
+passes frame packet rule cl = fitsPacket frame packet (entryOf cl) && namesNumber rule (cl .number)
 
-abbrev walk : Packet → Rule → Best → ℕ → List Classifier → Best
-walk packet rule b at cs = scan (λ cl. cl .priority) (λ cl. cl .number) (passes packet rule) b at cs
+abbrev walk : List ℕ → Packet → Rule → Best → ℕ → List Classifier → Best
+walk frame packet rule b at cs = scan (λ cl. cl .priority) (λ cl. cl .number) (passes frame packet rule) b at cs
 
 abbrev Inv-loop : tie.InvT-loop
 Inv-loop rule frame table n packet best₀ i₀ best i =
-    (i ≤ n) × (n ≤ 32) × (length (table .classifiers) ≡ 32) × (walk packet rule best i (drop i (take n (table .classifiers))) ≡ walk packet rule nothing 0 (classifiersOf table))
+    (i ≤ n) × (n ≤ 32) × (length (table .classifiers) ≡ 32) × (walk frame packet rule best i (drop i (take n (table .classifiers))) ≡ walk frame packet rule nothing 0 (classifiersOf table))
 
 abbrev μ-loop : tie.MeasureT-loop
 μ-loop rule frame table n packet best₀ i₀ best i = n - i
@@ -50,20 +50,20 @@ module _ (t : Table) (rule : Rule) (frame : List ℕ) (long : length (t .classif
     foreign n en h =
         en ∙ sym (length-classifiersOf t long) ∙ sym (bestPlace-none (λ cl. cl .priority) (λ cl. cl .number) (λ cl. matchesFrame frame cl && namesNumber rule (cl .number)) (classifiersOf t) (λ cl m. rw (matchesFrame-not frame p e h cl)))
 
-    same : p .ipv4 ≡ true → matchPlace t rule frame ≡ bestPlace (λ cl. cl .priority) (λ cl. cl .number) (passes p rule) (classifiersOf t)
+    same : p .ipv4 ≡ true → matchPlace t rule frame ≡ bestPlace (λ cl. cl .priority) (λ cl. cl .number) (passes frame p rule) (classifiersOf t)
     unfolding matchPlace
     same h =
         ap (λ (ok : Classifier → Bool). bestPlace (λ cl. cl .priority) (λ cl. cl .number) ok (classifiersOf t))
         (fun-ext (λ cl. ap (λ (b : Bool). b && namesNumber rule (cl .number)) (sym (matchesEntry-of frame cl) ∙ matchesEntry-ipv4 frame p e h (entryOf cl))))
 
-    module _ (h : p .ipv4 ≡ true) (b : Best) (eb : b ≡ walk p rule nothing 0 (classifiersOf t)) where
+    module _ (h : p .ipv4 ≡ true) (b : Best) (eb : b ≡ walk frame p rule nothing 0 (classifiersOf t)) where
       none : (n : ℕ) → n ≡ limitedTo 32 (t .classifiercount) → b .place ≡ 32 → n ≡ matchPlace t rule frame
       none n en eq =
-          en ∙ sym (length-classifiersOf t long) ∙ sym (same h ∙ scan-none (λ cl. cl .priority) (λ cl. cl .number) (passes p rule) (classifiersOf t) few (sym (ap (λ (x : Best). x .place) eb) ∙ eq))
+          en ∙ sym (length-classifiersOf t long) ∙ sym (same h ∙ scan-none (λ cl. cl .priority) (λ cl. cl .number) (passes frame p rule) (classifiersOf t) few (sym (ap (λ (x : Best). x .place) eb) ∙ eq))
 
       some : (b .place ≡ 32 → ⊥) → b .place ≡ matchPlace t rule frame
       some ne =
-          ap (λ (x : Best). x .place) eb ∙ sym (same h ∙ scan-some (λ cl. cl .priority) (λ cl. cl .number) (passes p rule) (classifiersOf t) few (λ eq. ne (ap (λ (x : Best). x .place) eb ∙ eq)) .0)
+          ap (λ (x : Best). x .place) eb ∙ sym (same h ∙ scan-some (λ cl. cl .priority) (λ cl. cl .number) (passes frame p rule) (classifiersOf t) few (λ eq. ne (ap (λ (x : Best). x .place) eb ∙ eq)) .0)
 
 loop-holds : tie.Need-loop-holds Inv-loop μ-loop
 unfolding classifiersOf

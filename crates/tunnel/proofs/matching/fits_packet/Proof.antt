@@ -1,6 +1,7 @@
 -- `matching::fits_packet` gives `fitsPacket`: a return for each test, in the order of the tests.
 -- Trusts: nothing.
-use borrow.Author.Tests.{eq-eqb, ne-eqb, lt-leb, le-leb, not-true, not-false}
+use borrow.Author.Needs.{needs}
+use borrow.Author.Tests.{eq-eqb, ne-eqb}
 use Rattle.tunnel.specs.Entry.{fitsPacket}
 use Rattle.tunnel.proofs.matching.fits_packet.Statement.{statement}
 use Rattle.tunnel.proofs.matching.fits_packet.Tie as tie
@@ -20,17 +21,7 @@ returns-3 c = simp (eq-eqb _ _ (c .before .before .before .before .before .befor
 returns-4 : tie.Need-returns-4
 unfolding fitsPacket
 returns-4 c =
-    simp (eq-eqb _ _ (c .before .before .before .before .before .before .before .before .if1 .left), eq-eqb _ _ (c .before .before .before .before .if2 .left), ne-eqb _ _ (c .before .before .if3 .left), not-true (c .before .before .before .before .before .before .before .before .before .before .before .args .p .ported) (c .if4 .taken))
-
-returns-5 : tie.Need-returns-5
-unfolding fitsPacket
-returns-5 c =
-    simp (eq-eqb _ _ (c .before .before .before .before .before .before .before .before .before .before .before .if1 .left), eq-eqb _ _ (c .before .before .before .before .before .before .before .if2 .left), ne-eqb _ _ (c .before .before .before .before .before .if3 .left), not-false (c .before .before .before .before .before .before .before .before .before .before .before .before .before .before .args .p .ported) (c .before .before .before .if4 .left), lt-leb _ _ (c .if5 .taken))
-
-returns-6 : tie.Need-returns-6
-unfolding fitsPacket
-returns-6 c =
-    simp (eq-eqb _ _ (c .before .before .before .before .before .before .before .before .before .before .before .before .before .if1 .left), eq-eqb _ _ (c .before .before .before .before .before .before .before .before .before .if2 .left), ne-eqb _ _ (c .before .before .before .before .before .before .before .if3 .left), not-false (c .before .before .before .before .before .before .before .before .before .before .before .before .before .before .before .before .args .p .ported) (c .before .before .before .before .before .if4 .left), le-leb _ _ (c .before .before .if5 .left))
+    simp (c .port-within .ensures, eq-eqb _ _ (c .before .before .before .before .before .before .before .if1 .left), eq-eqb _ _ (c .before .before .before .if2 .left), ne-eqb _ _ (c .before .if3 .left))
 
 pub fits-packet-spec : {M : Type 1} → statement M
-fits-packet-spec = tie.close (tie.spec returns returns-2 returns-3 returns-4 returns-5 returns-6)
+fits-packet-spec = tie.close (tie.spec returns returns-2 returns-3 (λ c κs. search needs) returns-4)

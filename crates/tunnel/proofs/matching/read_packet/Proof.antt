@@ -1,8 +1,8 @@
--- `matching::read_packet` gives `packetOf`: no IPv4 packet, no port, a port.
+-- `matching::read_packet` gives `packetOf`: no IPv4 packet, or its addresses.
 -- Trusts: nothing.
 use borrow.Author.Needs.{needs}
 use borrow.Author.Tests.{not-true, not-false}
-use Rattle.tunnel.specs.Match.{sourceAt, destinationAt, portAt}
+use Rattle.tunnel.specs.Match.{sourceAt, destinationAt}
 use Rattle.tunnel.specs.Entry.{packetOf}
 use Rattle.tunnel.proofs.matching.read_packet.Statement.{statement}
 use Rattle.tunnel.proofs.matching.read_packet.Tie as tie
@@ -12,14 +12,9 @@ unfolding packetOf
 returns c = simp (← c .before .is-ipv4 .ensures, not-true (c .before .is-ipv4 .result) (c .if1 .taken))
 
 returns-2 : tie.Need-returns-2
-unfolding packetOf sourceAt destinationAt portAt
+unfolding packetOf sourceAt destinationAt
 returns-2 c =
-    simp (← c .before .before .before .before .before .is-ipv4 .ensures, not-false (c .before .before .before .before .before .is-ipv4 .result) (c .before .before .before .before .if1 .left), ← c .before .has-port .ensures, not-true (c .before .has-port .result) (c .if2 .taken), c .before .before .number42 .ensures, c .before .before .before .number4 .ensures)
-
-returns-3 : tie.Need-returns-3
-unfolding packetOf sourceAt destinationAt portAt
-returns-3 c =
-    simp (← c .before .before .before .before .before .before .is-ipv4 .ensures, not-false (c .before .before .before .before .before .before .is-ipv4 .result) (c .before .before .before .before .before .if1 .left), ← c .before .before .has-port .ensures, not-false (c .before .before .has-port .result) (c .before .if2 .left), c .number2 .ensures, c .before .before .before .number42 .ensures, c .before .before .before .before .number4 .ensures)
+    simp (← c .before .before .before .is-ipv4 .ensures, not-false (c .before .before .before .is-ipv4 .result) (c .before .before .if1 .left), c .number42 .ensures, c .before .number4 .ensures)
 
 pub read-packet-spec : {M : Type 1} → statement M
 read-packet-spec =
@@ -29,7 +24,4 @@ read-packet-spec =
     returns
     (λ c κs. search needs)
     (λ c κs. search needs)
-    (λ c κs. search needs)
-    returns-2
-    (λ c κs. search needs)
-    returns-3)
+    returns-2)
