@@ -36,7 +36,8 @@ use Rattle.table.specs.Table.{classifiersOf, emptyClassifier}
 use Rattle.choice.specs.Choose.{ruleAt}
 use Rattle.tunnel.specs.declared.Verdict.{Verdict}
 use Rattle.tunnel.specs.declared.Verdict.the-variants as verdict
-use Rattle.tunnel.specs.Judge.{wrongLength, addressAt, matchPlace, ruleVerdict, choiceVerdict, verdictOf}
+use Rattle.matching.specs.Match.{wrongLength, addressAt}
+use Rattle.tunnel.specs.Judge.{matchPlace, ruleVerdict, choiceVerdict, verdictOf}
 use Rattle.elements.specs.Elements.{headAt}
 use Rattle.elements.specs.declared.Head.{Head}
 use Rattle.elements.specs.declared.Head.the-variants as head

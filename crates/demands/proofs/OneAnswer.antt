@@ -38,12 +38,18 @@ use Rattle.collector.proofs.empty_collection.Reads as empty_collection
 use Rattle.collector.proofs.collect.Reads as collect
 use Rattle.collector.proofs.message.Reads as message
 use Rattle.choice.proofs.is_better.Reads as is_better
+use Rattle.choice.proofs.rule_at.Reads as choice_rule_at
 use Rattle.choice.proofs.choose_rule.Reads as choose_rule
+use Rattle.matching.proofs.wrong_length.Reads as wrong_length
+use Rattle.matching.proofs.names_number.Reads as names_number
+use Rattle.matching.proofs.read_packet.Reads as read_packet
+use Rattle.matching.proofs.entry_of.Reads as entry_of
+use Rattle.matching.proofs.fits_packet.Reads as fits_packet
 use Rattle.tunnel.proofs.judge_frame.Reads as judge_frame
 use Rattle.tunnel.proofs.payload.Reads as payload
-use Rattle.tunnel.proofs.prepare_tunnel.Reads as prepare_tunnel
-use Rattle.tunnel.proofs.judge_prepared.Reads as judge_prepared
-use Rattle.tunnel.proofs.judge_lent.Reads as judge_lent
+use Rattle.prepared.proofs.prepare_tunnel.Reads as prepare_tunnel
+use Rattle.prepared.proofs.judge_prepared.Reads as judge_prepared
+use Rattle.prepared.proofs.judge_lent.Reads as judge_lent
 use Rattle.modem.proofs.empty_modem.Reads as empty_modem
 use Rattle.modem.proofs.step_modem.Reads as step_modem
 use Rattle.modem.proofs.step_numbered.Reads as step_numbered
@@ -147,6 +153,26 @@ is_better-one κs = only (demand2.is_better-gives κs)
 pub choose_rule-one : (κs : Lfts 0) → One answer (choose_rule.Post κs)
 choose_rule-one κs = only (demand2.choose_rule-gives κs)
 
+pub choice_rule_at-one : (κs : Lfts 0) → One answer (choice_rule_at.Post κs)
+choice_rule_at-one κs = only (demand2.choice_rule_at-gives κs)
+
+-- ---- matching
+
+pub wrong_length-one : (κs : Lfts 1) → One answer (wrong_length.Post κs)
+wrong_length-one κs = only (parts.wrong_length-gives κs)
+
+pub names_number-one : (κs : Lfts 0) → One answer (names_number.Post κs)
+names_number-one κs = only (parts.names_number-gives κs)
+
+pub read_packet-one : (κs : Lfts 1) → One answer (read_packet.Post κs)
+read_packet-one κs = only (parts.read_packet-gives κs)
+
+pub entry_of-one : (κs : Lfts 0) → One answer (entry_of.Post κs)
+entry_of-one κs = only (parts.entry_of-gives κs)
+
+pub fits_packet-one : (κs : Lfts 1) → One answer (fits_packet.Post κs)
+fits_packet-one κs = only (parts.fits_packet-gives κs)
+
 -- ---- tunnel
 
 pub judge_frame-one : (κs : Lfts 1) → One answer (judge_frame.Post κs)
@@ -154,6 +180,8 @@ judge_frame-one κs = only (demand2.judge_frame-gives κs)
 
 pub payload-one : (κs : Lfts 1) → One (λ x s. now x) (payload.Post κs)
 payload-one κs = only (demand2.payload-gives κs)
+
+-- ---- prepared
 
 pub prepare_tunnel-one : (κs : Lfts 0) → One answer (prepare_tunnel.Post κs)
 prepare_tunnel-one κs = only (demand2.prepare_tunnel-gives κs)

@@ -6,12 +6,12 @@ ghost use mathlib.Core.Path.{_≡_};
 ghost use Prim.Native.Nat.{_-_};
 ghost use lib.ListN.{length};
 ghost use Rattle.tunnel.specs.Judge.{verdictOf};
-ghost use Rattle.tunnel.specs.Prepared.{preparedTunnel, lentTunnel, preparedVerdict};
+ghost use Rattle.prepared.specs.Prepared.{preparedTunnel, lentTunnel, preparedVerdict};
 ghost use Rattle.dsg.specs.Frames.{clientOf, ucidOf, choiceAs, choiceFor, verdictAs, verdictFor};
 use choice::Ucid;
+use prepared::Tunnel;
 use table::Client;
 use table::Table;
-use tunnel::Tunnel;
 
 // What a choice is answered: number 0 and the rule's place in the table, or the refusal.
 #[repr(C)]
@@ -143,7 +143,7 @@ fn prepare_value(table: Table, kind: u8, value: u64, known: u8, ucid: u8) -> Tun
 {
     let client = Client { kind, value };
     let upstream = ucid_from(known, ucid);
-    tunnel::prepare_tunnel(table, client, upstream)
+    prepared::prepare_tunnel(table, client, upstream)
 }
 
 // The tunnel of a client, from a table that the host lends.
@@ -170,7 +170,7 @@ fn judge_parts<'a, 'b>(
 ) -> Verdict
     ensures { λ r. ⌜ r ≡ verdictAs (preparedVerdict (lentTunnel mode address count (now (destinations .entry)) (now (sources .entry)) (now (masks .entry)) (now (starts .entry)) (now (ends .entry)) (now (numbers .entry)) (now (ports .entry))) (now (frame .entry))) (length (now (frame .entry))) ⌝ }
 {
-    let verdict = tunnel::judge_lent(
+    let verdict = prepared::judge_lent(
         mode,
         address,
         count,
