@@ -298,12 +298,12 @@ struct dsg_verdict dsg_judge(const struct dsg_table *table, uint8_t kind, uint64
 
 /* The rule for a client and its classifiers, taken out of the table once, to judge many frames with. Anew after each
  * accepted table and wherever the UCID changes. Lent: the table. Nothing is written.
- * Definition: tunnel/specs/Prepared preparedTunnel. */
+ * Definition: prepared/specs/Prepared preparedTunnel. */
 struct dsg_tunnel dsg_prepare(const struct dsg_table *table, uint8_t kind, uint64_t value, uint8_t ucid_known,
                               uint8_t ucid);
 
 /* Judges a frame with what dsg_prepare gave: the verdict is that of dsg_judge with the same table, client and UCID.
- * Lent: the tunnel, the frame. Nothing is written. Definition: tunnel/specs/Prepared preparedVerdict; dsg_frames/specs/Frames verdictAs. */
+ * Lent: the tunnel, the frame. Nothing is written. Definition: prepared/specs/Prepared preparedVerdict; dsg_frames/specs/Frames verdictAs. */
 struct dsg_verdict dsg_judge_prepared(const struct dsg_tunnel *tunnel, const uint8_t *frame, size_t length);
 
 /* ---- the modem ---------------------------------------------------------------------------------------------- */

@@ -24,6 +24,10 @@ pub and-yes : (a b : Bool) → a && b ≡ true → (a ≡ true) × (b ≡ true)
 and-yes true b e = (refl, e)
 and-yes false b e = absurd (clash e refl)
 
+pub or-no : (a b : Bool) → a || b ≡ false → (a ≡ false) × (b ≡ false)
+or-no true b e = absurd (clash refl e)
+or-no false b e = (refl, e)
+
 module _ {A : Type 0} where
   pub anyOf-yes : (ok : A → Bool) {y : A} (xs : List A) → List·Memᴰ y xs → ok y ≡ true → anyOf ok xs ≡ true
   unfolding anyOf

@@ -3,6 +3,7 @@
 --   anyOf-found    the element at `i` passes: the rest from `i` has one that passes
 --   anyOf-passed   it does not: the rest from `i` has one where the rest from `i + 1` has one
 --   anyOf-end      no place is left: none passes
+--   anyOf-skip     it does not, or its place is not among the first `n`: as anyOf-passed
 -- Trusts: nothing.
 use mathlib.Core.Path.{_≡_, refl, sym, ap, _∙_}
 use mathlib.Core.Bool.{Bool, true, false, _||_}
@@ -10,6 +11,8 @@ use mathlib.Core.List.{List, [], _∷_}
 use Prim.Native.Nat.{ℕ, suc, _+_, _-_, _≤_, _<_}
 use native.Mathlib.Omega.{arith}
 use native.Mathlib.Numerals.{add-one}
+use lib.Dec.{ltb}
+use borrow.Author.Tests.{ltb-true, ltb-false}
 use lib.ListN.{length, take, drop, getD}
 use lib.Seq.{drop-cons}
 use Rattle.choice.specs.Best.{anyOf}
@@ -32,3 +35,13 @@ unfolding anyOf
 anyOf-end ok xs n i h =
     let e : n - i ≡ 0 = omega arith in
     simp e
+
+module _ {A : Type 0} (ok : A → Bool) (xs : List A) (d : A) (n i : ℕ) (k : i < length xs) where
+  pub anyOf-skip : ok (getD xs i d) ≡ false → anyOf ok (take (n - i) (drop i xs)) ≡ anyOf ok (take (n - (i + 1)) (drop (i + 1) xs))
+  anyOf-skip e = go (ltb i n) refl
+    where
+      go : (b : Bool) → ltb i n ≡ b → anyOf ok (take (n - i) (drop i xs)) ≡ anyOf ok (take (n - (i + 1)) (drop (i + 1) xs))
+      go true h = anyOf-passed ok xs d n i (ltb-true i n h) k e
+      go false h =
+          let l : n ≤ i = ltb-false i n h in
+          anyOf-end ok (drop i xs) n i l ∙ sym (anyOf-end ok (drop (i + 1) xs) n (i + 1) (omega arith))

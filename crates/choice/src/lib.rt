@@ -9,6 +9,8 @@ use table::Table;
 use table::empty_rule;
 use table::limited;
 ghost use mathlib.Core.Path.{_≡_};
+ghost use mathlib.Core.Bool.{false, _&&_, _||_};
+ghost use lib.Dec.{eqb};
 ghost use Rattle.choice.specs.Best.{isBetter, bestAfter};
 ghost use Rattle.choice.specs.Choose.{isClient, listsClient, listsUcid, admitsUcid, fitsClient, choiceOf, ruleAt};
 
@@ -62,6 +64,30 @@ fn lists_client(rule: Rule, client: Client) -> bool
         j += 1;
     }
     false
+}
+
+// Whether something was seen already, or two values are equal.
+fn also_same(seen: bool, a: u64, b: u64) -> bool
+    ensures { λ r. ⌜ r ≡ eqb a b || seen ⌝ }
+{
+    if a == b {
+        return true;
+    }
+    seen
+}
+
+// Whether a place of the rule's client list, used or not, has the client's value: a quick test that most rules fail.
+fn has_value(rule: Rule, client: Client) -> bool
+    ensures { λ r. ⌜ (r ≡ false → listsClient rule client ≡ false) ⌝ }
+{
+    let mut seen = false;
+    let mut j: usize = 0;
+    while j < 8 {
+        let listed = rule.clients[j];
+        seen = also_same(seen, client.value, listed.value);
+        j += 1;
+    }
+    seen
 }
 
 // Whether the rule's UCID list has this number.
@@ -118,6 +144,17 @@ pub fn is_better(best: Best, priority: u8, number: u16) -> bool
     number < best.number
 }
 
+// Whether the rule may become the best: where not, the best so far stays, whatever the UCID.
+fn may_win(best: Best, rule: Rule, client: Client) -> bool
+    ensures { λ r. ⌜ (r ≡ false → (u : Ucid) → isBetter best (rule .priority) (rule .number) && fitsClient client u rule ≡ false) ⌝ }
+{
+    let number = rule.number as u16;
+    if !is_better(best, rule.priority, number) {
+        return false;
+    }
+    has_value(rule, client)
+}
+
 // The best so far after the rule at place `at`.
 fn take_rule(best: Best, at: usize, rule: Rule, client: Client, ucid: Ucid) -> Best
     ensures { λ r. ⌜ r ≡ bestAfter best at (rule .priority) (rule .number) (fitsClient client ucid rule) ⌝ }
@@ -136,7 +173,8 @@ fn take_rule(best: Best, at: usize, rule: Rule, client: Client, ucid: Ucid) -> B
     }
 }
 
-// The rule for a client: the greatest priority, among equals the smallest number, then the first.
+// The rule for a client: the greatest priority, among equals the smallest number, then the first. A rule is
+// read anew where it may win, so that the others cost no more than their clients' values.
 pub fn choose_rule(table: Table, client: Client, ucid: Ucid) -> Choice
     ensures { λ r. ⌜ r ≡ choiceOf table client ucid ⌝ }
 {
@@ -146,10 +184,14 @@ pub fn choose_rule(table: Table, client: Client, ucid: Ucid) -> Choice
         priority: 0,
         number: 0,
     };
+    let rules = table.rules;
     let mut i: usize = 0;
     while i < n {
-        let rule = table.rules[i];
-        best = take_rule(best, i, rule, client, ucid);
+        let seen = rules[i];
+        if may_win(best, seen, client) {
+            let rule = rules[i];
+            best = take_rule(best, i, rule, client, ucid);
+        }
         i += 1;
     }
     let place = best.place;

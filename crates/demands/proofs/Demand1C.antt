@@ -33,11 +33,11 @@ use Rattle.listing.specs.Listing.{Written, listing}
 use Rattle.choice.specs.Choose as choose
 use Rattle.choice.specs.declared.Choice.{Choice}
 use Rattle.choice.specs.declared.Choice.the-variants as choice
-use Rattle.tunnel.specs.declared.Tunnel.{Tunnel}
+use Rattle.prepared.specs.declared.Tunnel.{Tunnel}
 use Rattle.tunnel.specs.declared.Verdict as frames
 use Rattle.tunnel.specs.declared.Verdict.the-variants as verdict
 use Rattle.tunnel.specs.Judge.{verdictOf}
-use Rattle.tunnel.specs.Prepared.{preparedVerdict}
+use Rattle.prepared.specs.Prepared.{preparedVerdict}
 use Rattle.modem.specs.declared.Modem.{Modem}
 use Rattle.dsg_pieces.specs.Bodies.{completeOf, collectedOf, CollectAfter, collectAfter, receivedOf, ReceiveAfter, receiveAfter}
 use Rattle.dsg_tables.specs.Tables.{readStepped, listedAs, listingAs}

@@ -23,12 +23,13 @@ use Rattle.choice.specs.declared.Choice.{Choice}
 use Rattle.choice.specs.declared.Choice.the-variants as choice
 use Rattle.choice.specs.Best.{firstPlace}
 use Rattle.choice.specs.Choose.{chosenPlace, choiceOf, ruleAt}
-use Rattle.tunnel.specs.declared.Tunnel.{Tunnel}
+use Rattle.prepared.specs.declared.Tunnel.{Tunnel}
 use Rattle.tunnel.specs.declared.Verdict.{Verdict}
 use Rattle.tunnel.specs.declared.Verdict.the-variants as verdict
-use Rattle.tunnel.specs.Entry.{matchesEntry}
-use Rattle.tunnel.specs.Judge.{wrongLength, addressAt, matchPlace, ruleVerdict, choiceVerdict, verdictOf}
-use Rattle.tunnel.specs.Prepared.{entriesOf, preparedVerdict}
+use Rattle.matching.specs.Entry.{matchesEntry}
+use Rattle.matching.specs.Match.{wrongLength, addressAt}
+use Rattle.tunnel.specs.Judge.{matchPlace, ruleVerdict, choiceVerdict, verdictOf}
+use Rattle.prepared.specs.Prepared.{entriesOf, preparedVerdict}
 use Rattle.modem.specs.declared.Modem.{Modem}
 use Rattle.modem.specs.declared.Event.{Event}
 use Rattle.modem.specs.declared.Answer.{Answer}

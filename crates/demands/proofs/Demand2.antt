@@ -31,20 +31,21 @@ use Rattle.receiver.proofs.receive.Reads as receive
 use Rattle.receiver.proofs.receive.Statement as receive′
 use Rattle.receiver.proofs.receive.Met as receive″
 use Rattle.choice.specs.Best.{isBetter}
-use Rattle.choice.specs.Choose.{choiceOf}
+use Rattle.choice.specs.Choose.{choiceOf, ruleAt}
 use Rattle.choice.proofs.is_better.Reads as is_better
+use Rattle.choice.proofs.rule_at.Reads as choice_rule_at
 use Rattle.choice.proofs.choose_rule.Reads as choose_rule
 use Rattle.choice.proofs.choose_rule.Statement as choose_rule′
 use Rattle.choice.proofs.choose_rule.Met as choose_rule″
 use Rattle.tunnel.specs.Judge.{verdictOf, payloadOf}
-use Rattle.tunnel.specs.Prepared.{preparedTunnel, lentTunnel, preparedVerdict}
+use Rattle.prepared.specs.Prepared.{preparedTunnel, lentTunnel, preparedVerdict}
 use Rattle.tunnel.proofs.judge_frame.Reads as judge_frame
 use Rattle.tunnel.proofs.judge_frame.Statement as judge_frame′
 use Rattle.tunnel.proofs.judge_frame.Met as judge_frame″
 use Rattle.tunnel.proofs.payload.Reads as payload
-use Rattle.tunnel.proofs.prepare_tunnel.Reads as prepare_tunnel
-use Rattle.tunnel.proofs.judge_prepared.Reads as judge_prepared
-use Rattle.tunnel.proofs.judge_lent.Reads as judge_lent
+use Rattle.prepared.proofs.prepare_tunnel.Reads as prepare_tunnel
+use Rattle.prepared.proofs.judge_prepared.Reads as judge_prepared
+use Rattle.prepared.proofs.judge_lent.Reads as judge_lent
 use Rattle.modem.specs.declared.Modem.{Modem}
 use Rattle.modem.specs.declared.Answer.{Answer}
 use Rattle.modem.specs.declared.Stepped.{Stepped}
@@ -119,6 +120,9 @@ choose_rule-met = choose_rule″.met
 
 pub choose_rule-gives : (κs : Lfts 0) → Gives answer (choose_rule.Post κs) (λ a. choiceOf (a .0) (a .1 .0) (a .1 .1 .0))
 choose_rule-gives κs a x s h = h
+
+pub choice_rule_at-gives : (κs : Lfts 0) → Gives answer (choice_rule_at.Post κs) (λ a. ruleAt (a .0) (a .1 .0))
+choice_rule_at-gives κs a x s h = h
 
 pub is_better-gives : (κs : Lfts 0) → Gives answer (is_better.Post κs) (λ a. isBetter (a .0) (a .1 .0) (a .1 .1 .0))
 is_better-gives κs a x s h = h

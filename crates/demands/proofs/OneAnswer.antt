@@ -19,12 +19,13 @@ use Rattle.collector.proofs.empty_collection.Reads as empty_collection
 use Rattle.collector.proofs.collect.Reads as collect
 use Rattle.collector.proofs.message.Reads as message
 use Rattle.choice.proofs.is_better.Reads as is_better
+use Rattle.choice.proofs.rule_at.Reads as choice_rule_at
 use Rattle.choice.proofs.choose_rule.Reads as choose_rule
 use Rattle.tunnel.proofs.judge_frame.Reads as judge_frame
 use Rattle.tunnel.proofs.payload.Reads as payload
-use Rattle.tunnel.proofs.prepare_tunnel.Reads as prepare_tunnel
-use Rattle.tunnel.proofs.judge_prepared.Reads as judge_prepared
-use Rattle.tunnel.proofs.judge_lent.Reads as judge_lent
+use Rattle.prepared.proofs.prepare_tunnel.Reads as prepare_tunnel
+use Rattle.prepared.proofs.judge_prepared.Reads as judge_prepared
+use Rattle.prepared.proofs.judge_lent.Reads as judge_lent
 use Rattle.modem.proofs.empty_modem.Reads as empty_modem
 use Rattle.modem.proofs.step_modem.Reads as step_modem
 use Rattle.modem.proofs.step_numbered.Reads as step_numbered
@@ -65,6 +66,9 @@ is_better-one κs = only (demand2.is_better-gives κs)
 pub choose_rule-one : (κs : Lfts 0) → One answer (choose_rule.Post κs)
 choose_rule-one κs = only (demand2.choose_rule-gives κs)
 
+pub choice_rule_at-one : (κs : Lfts 0) → One answer (choice_rule_at.Post κs)
+choice_rule_at-one κs = only (demand2.choice_rule_at-gives κs)
+
 -- ---- tunnel
 
 pub judge_frame-one : (κs : Lfts 1) → One answer (judge_frame.Post κs)
@@ -72,6 +76,8 @@ judge_frame-one κs = only (demand2.judge_frame-gives κs)
 
 pub payload-one : (κs : Lfts 1) → One (λ x s. now x) (payload.Post κs)
 payload-one κs = only (demand2.payload-gives κs)
+
+-- ---- prepared
 
 pub prepare_tunnel-one : (κs : Lfts 0) → One answer (prepare_tunnel.Post κs)
 prepare_tunnel-one κs = only (demand2.prepare_tunnel-gives κs)

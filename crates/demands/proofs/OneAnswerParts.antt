@@ -25,6 +25,11 @@ use Rattle.rows.proofs.test_element.Reads as test_element
 use Rattle.contents.proofs.rule_at.Reads as rule_at
 use Rattle.contents.proofs.classifier_at.Reads as classifier_at
 use Rattle.contents.proofs.configuration_at.Reads as configuration_at
+use Rattle.matching.proofs.wrong_length.Reads as wrong_length
+use Rattle.matching.proofs.names_number.Reads as names_number
+use Rattle.matching.proofs.read_packet.Reads as read_packet
+use Rattle.matching.proofs.entry_of.Reads as entry_of
+use Rattle.matching.proofs.fits_packet.Reads as fits_packet
 use Rattle.bodies.proofs.list_body.Reads as list_body
 use Rattle.listing.proofs.list_table.Reads as list_table
 use Rattle.listing.proofs.list_refusal.Reads as list_refusal
@@ -93,6 +98,23 @@ classifier_at-one κs = only (parts.classifier_at-gives κs)
 
 pub configuration_at-one : (κs : Lfts 1) → One answer (configuration_at.Post κs)
 configuration_at-one κs = only (parts.configuration_at-gives κs)
+
+-- ---- matching
+
+pub wrong_length-one : (κs : Lfts 1) → One answer (wrong_length.Post κs)
+wrong_length-one κs = only (parts.wrong_length-gives κs)
+
+pub names_number-one : (κs : Lfts 0) → One answer (names_number.Post κs)
+names_number-one κs = only (parts.names_number-gives κs)
+
+pub read_packet-one : (κs : Lfts 1) → One answer (read_packet.Post κs)
+read_packet-one κs = only (parts.read_packet-gives κs)
+
+pub entry_of-one : (κs : Lfts 0) → One answer (entry_of.Post κs)
+entry_of-one κs = only (parts.entry_of-gives κs)
+
+pub fits_packet-one : (κs : Lfts 1) → One answer (fits_packet.Post κs)
+fits_packet-one κs = only (parts.fits_packet-gives κs)
 
 -- ---- listing
 

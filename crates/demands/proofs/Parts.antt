@@ -1,4 +1,4 @@
--- Parts: what the public functions of the lower crates give (wire, table, elements, rows, contents, listing, bodies): each its definition, for every input.
+-- Parts: what the public functions of the lower crates give (wire, table, elements, rows, contents, matching, listing, bodies): each its definition, for every input.
 --
 -- It says nothing of what the definitions mean; docs/MAP.md says where they stand. `met` of each function, in its own crate, says that the
 -- compiled function meets the contract cited here.
@@ -36,6 +36,13 @@ use Rattle.contents.specs.Configurations.{configurationAt}
 use Rattle.contents.proofs.rule_at.Reads as rule_at
 use Rattle.contents.proofs.classifier_at.Reads as classifier_at
 use Rattle.contents.proofs.configuration_at.Reads as configuration_at
+use Rattle.matching.specs.Match.{wrongLength, namesNumber}
+use Rattle.matching.specs.Entry.{packetOf, entryOf, fitsPacket}
+use Rattle.matching.proofs.wrong_length.Reads as wrong_length
+use Rattle.matching.proofs.names_number.Reads as names_number
+use Rattle.matching.proofs.read_packet.Reads as read_packet
+use Rattle.matching.proofs.entry_of.Reads as entry_of
+use Rattle.matching.proofs.fits_packet.Reads as fits_packet
 use Rattle.listing.specs.Text.{tableText, refusalText, waitingText}
 use Rattle.listing.specs.Listing.{Listing, written, listing}
 use Rattle.bodies.specs.Body.{bodyText}
@@ -107,6 +114,23 @@ classifier_at-gives κs a x s h = h
 
 pub configuration_at-gives : (κs : Lfts 1) → Gives answer (configuration_at.Post κs) (λ a. configurationAt (now (a .0)) (a .1 .0))
 configuration_at-gives κs a x s h = h
+
+-- ---- matching
+
+pub wrong_length-gives : (κs : Lfts 1) → Gives answer (wrong_length.Post κs) (λ a. wrongLength (now (a .0)))
+wrong_length-gives κs a x s h = h
+
+pub names_number-gives : (κs : Lfts 0) → Gives answer (names_number.Post κs) (λ a. namesNumber (a .0) (a .1 .0))
+names_number-gives κs a x s h = h
+
+pub read_packet-gives : (κs : Lfts 1) → Gives answer (read_packet.Post κs) (λ a. packetOf (now (a .0)))
+read_packet-gives κs a x s h = h
+
+pub entry_of-gives : (κs : Lfts 0) → Gives answer (entry_of.Post κs) (λ a. entryOf (a .0))
+entry_of-gives κs a x s h = h
+
+pub fits_packet-gives : (κs : Lfts 1) → Gives answer (fits_packet.Post κs) (λ a. fitsPacket (now (a .1 .1 .0)) (a .1 .0) (a .0))
+fits_packet-gives κs a x s h = h
 
 -- ---- listing: the answer and the lent buffer
 

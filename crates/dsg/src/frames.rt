@@ -4,7 +4,7 @@
 // counts where its mark is not 0. The payload is told by its place in the frame: it is not copied.
 ghost use mathlib.Core.Path.{_≡_};
 ghost use lib.ListN.{length};
-ghost use Rattle.tunnel.specs.Prepared.{preparedTunnel, preparedVerdict};
+ghost use Rattle.prepared.specs.Prepared.{preparedTunnel, preparedVerdict};
 ghost use Rattle.dsg_frames.specs.Frames.{clientOf, ucidOf, choiceFor, verdictAs, verdictFor};
 use dsg_frames::Choice;
 use dsg_frames::Verdict;
@@ -12,8 +12,8 @@ use dsg_frames::choose_value;
 use dsg_frames::judge_parts;
 use dsg_frames::judge_value;
 use dsg_frames::prepare_value;
+use prepared::Tunnel;
 use table::Table;
-use tunnel::Tunnel;
 
 // The rule for a client, in a table that the host lends.
 #[no_mangle]

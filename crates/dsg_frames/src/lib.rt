@@ -5,12 +5,12 @@
 ghost use mathlib.Core.Path.{_≡_};
 ghost use Prim.Native.Nat.{_-_};
 ghost use lib.ListN.{length};
-ghost use Rattle.tunnel.specs.Prepared.{preparedTunnel, lentTunnel, preparedVerdict};
+ghost use Rattle.prepared.specs.Prepared.{preparedTunnel, lentTunnel, preparedVerdict};
 ghost use Rattle.dsg_frames.specs.Frames.{clientOf, ucidOf, choiceAs, choiceFor, verdictAs, verdictFor};
 use choice::Ucid;
+use prepared::Tunnel;
 use table::Client;
 use table::Table;
-use tunnel::Tunnel;
 
 // What a choice is answered: number 0 and the rule's place in the table, or the refusal.
 #[repr(C)]
@@ -119,7 +119,7 @@ pub fn prepare_value(table: Table, kind: u8, value: u64, known: u8, ucid: u8) ->
 {
     let client = Client { kind, value };
     let upstream = ucid_from(known, ucid);
-    tunnel::prepare_tunnel(table, client, upstream)
+    prepared::prepare_tunnel(table, client, upstream)
 }
 
 // The verdict on a frame, by the parts of a prepared tunnel.
@@ -138,7 +138,7 @@ pub fn judge_parts<'a, 'b>(
 ) -> Verdict
     ensures { λ r. ⌜ r ≡ verdictAs (preparedVerdict (lentTunnel mode address count (now (destinations .entry)) (now (sources .entry)) (now (masks .entry)) (now (starts .entry)) (now (ends .entry)) (now (numbers .entry)) (now (ports .entry))) (now (frame .entry))) (length (now (frame .entry))) ⌝ }
 {
-    let verdict = tunnel::judge_lent(
+    let verdict = prepared::judge_lent(
         mode,
         address,
         count,

@@ -15,7 +15,8 @@ use Rattle.choice.specs.Best.{comesBefore, anyOf, firstPlace, isBest, bestPlace
 use Rattle.choice.specs.Choose.{isClient, listsClient, listsUcid, admitsUcid, fitsClient, chosenPlace, choiceOf}
 use Rattle.choice.proofs.Bench.{application42, tableM}
 use Rattle.tunnel.specs.declared.Verdict.the-variants.{Refused, Other, Forward}
-use Rattle.tunnel.specs.Judge.{wrongLength, addressAt, ruleVerdict, choiceVerdict, verdictOf, payloadStart, payloadOf}
+use Rattle.matching.specs.Match.{wrongLength, addressAt}
+use Rattle.tunnel.specs.Judge.{ruleVerdict, choiceVerdict, verdictOf, payloadStart, payloadOf}
 
 abbrev pub frameM : List ℕ
 frameM = 1 ∷ 0 ∷ 94 ∷ 5 ∷ 5 ∷ 5 ∷ 0 ∷ 0 ∷ 0 ∷ 0 ∷ 0 ∷ 0 ∷ 8 ∷ 0 ∷ 69 ∷ []

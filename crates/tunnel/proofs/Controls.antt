@@ -1,9 +1,8 @@
--- Wrong programs that the promises exclude (specs/Judge.antt, specs/Prepared.antt).
+-- Wrong programs that the promises exclude (specs/Judge.antt).
 --
---   no-one-tunnel     a function that meets prepare_tunnel's promise does not give every client the same tunnel
---   no-one-verdict    nor does one that meets judge_frame's promise judge alike for every client
+--   no-one-verdict    a function that meets judge_frame's promise does not judge alike for every client
 -- Trusts: nothing.
-use mathlib.Core.Path.{_≡_, refl, sym, ap, _∙_}
+use mathlib.Core.Path.{_≡_, sym, _∙_}
 use mathlib.Core.List.{List}
 use Prim.Native.Nat.{ℕ}
 use native.Mathlib.Omega.{arith}
@@ -12,12 +11,9 @@ use Rattle.table.specs.declared.Table.{Table}
 use Rattle.choice.specs.declared.Ucid.{Ucid}
 use Rattle.choice.specs.declared.Ucid.the-variants.{Unknown}
 use Rattle.choice.proofs.Bench.{application42, tableM}
-use Rattle.tunnel.specs.declared.Tunnel.{Tunnel}
 use Rattle.tunnel.specs.declared.Verdict.{Verdict}
 use Rattle.tunnel.specs.declared.Verdict.the-variants.{Refused, Forward}
 use Rattle.tunnel.specs.Judge.{verdictOf}
-use Rattle.tunnel.specs.Prepared.{preparedTunnel, preparedVerdict}
-use Rattle.tunnel.proofs.Same.{prepared-same}
 use Rattle.tunnel.proofs.Bench.{frameM, forwarded, unfit}
 
 abbrev stranger : Client
@@ -30,9 +26,3 @@ module _ (judge : Table → Client → Ucid → List ℕ → Verdict) (promise :
   pub no-one-verdict : ((t : Table) (c d : Client) (u : Ucid) (frame : List ℕ) → judge t c u frame ≡ judge t d u frame) → ⊥
   no-one-verdict same =
       apart (sym forwarded ∙ sym (promise tableM application42 Unknown frameM) ∙ same tableM application42 stranger Unknown frameM ∙ promise tableM stranger Unknown frameM ∙ unfit)
-
-module _ (prepare : Table → Client → Ucid → Tunnel) (promise : (t : Table) (c : Client) (u : Ucid) → prepare t c u ≡ preparedTunnel t c u) where
-  pub no-one-tunnel : ((t : Table) (c d : Client) (u : Ucid) → prepare t c u ≡ prepare t d u) → ⊥
-  no-one-tunnel same =
-      no-one-verdict (λ t c u frame. preparedVerdict (prepare t c u) frame) (λ t c u frame. ap (λ (tu : Tunnel). preparedVerdict tu frame) (promise t c u) ∙ prepared-same t c u frame)
-      (λ t c d u frame. ap (λ (tu : Tunnel). preparedVerdict tu frame) (same t c d u))

@@ -1,8 +1,5 @@
 -- Judge: the verdict on a frame (document 01, "Choosing and judging").
 --
---   wrongLength frame        under 14 or over 1,518 bytes
---   addressAt frame          the number of the first six bytes
---   namesNumber rule n       the rule names the classifier number n
 --   matchPlace t rule frame  the place of the matching classifier: of those that the rule names and that match, the
 --                            greatest priority, then the smallest number; the count where none matches
 --   ruleVerdict t rule frame the verdict of a chosen rule: Other, Forward or Filtered
@@ -13,7 +10,7 @@
 -- A number that no classifier of the table carries never matches; of a repeated number every entry is tried.
 -- Tested by: random tables and frames against the other program. Trusts: nothing.
 use Prim.Native.Nat.{ℕ}
-use mathlib.Core.Bool.{Bool, cond, not, _&&_, _||_}
+use mathlib.Core.Bool.{cond, not, _&&_}
 use mathlib.Core.List.{List}
 use lib.ListN.{length, getD, drop}
 use lib.Dec.{ltb, eqb}
@@ -21,25 +18,15 @@ use Rattle.table.specs.declared.Client.{Client}
 use Rattle.table.specs.declared.Rule.{Rule}
 use Rattle.table.specs.declared.Classifier.{Classifier}
 use Rattle.table.specs.declared.Table.{Table}
-use Rattle.table.specs.Table.{classifiersOf, numbersOf, emptyClassifier}
-use Rattle.wire.specs.Bytes.{numberAt}
+use Rattle.table.specs.Table.{classifiersOf, emptyClassifier}
 use Rattle.choice.specs.declared.Ucid.{Ucid}
 use Rattle.choice.specs.declared.Choice.{Choice}
 use Rattle.choice.specs.declared.Choice.the-variants as choice
-use Rattle.choice.specs.Best.{anyOf, bestPlace}
+use Rattle.choice.specs.Best.{bestPlace}
 use Rattle.choice.specs.Choose.{choiceOf, ruleAt}
 use Rattle.tunnel.specs.declared.Verdict.{Verdict}
 use Rattle.tunnel.specs.declared.Verdict.the-variants.{Refused, Other, Forward, Filtered}
-use Rattle.tunnel.specs.Match.{matchesFrame}
-
-unfoldable pub wrongLength : List ℕ → Bool
-wrongLength frame = ltb (length frame) 14 || ltb 1518 (length frame)
-
-unfoldable pub addressAt : List ℕ → ℕ
-addressAt frame = numberAt 6 frame 0
-
-unfoldable pub namesNumber : Rule → ℕ → Bool
-namesNumber rule n = anyOf (eqb n) (numbersOf rule)
+use Rattle.matching.specs.Match.{wrongLength, addressAt, namesNumber, matchesFrame}
 
 unfoldable pub matchPlace : Table → Rule → List ℕ → ℕ
 matchPlace t rule frame =

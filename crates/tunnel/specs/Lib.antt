@@ -1,5 +1,1 @@
-pub mod Match
 pub mod Judge
-pub mod Entry
-pub mod Order
-pub mod Prepared

@@ -1,20 +1,32 @@
-// Judges a frame by the tunnel of a client (document 01, "Choosing and judging").
+// Judges a frame by a table and a client (document 01, "Choosing and judging").
 //
-// Public functions: `judge_frame` judges by a table; `prepare_tunnel` chooses once and `judge_prepared`
-// judges by what it prepared, with the same verdict (`judge_lent` is the same by the tunnel's parts);
-// `payload` lends the part of a forwarded frame back. All take any input: a frame of a wrong length is
-// refusal 16, a client that no rule fits refusal 17, and a count above its limit is read as the limit.
-// Nothing that is lent is written.
-mod judge;
-mod matching;
-mod prepare;
-
-pub use judge::judge_frame;
-pub use judge::payload;
-pub use prepare::judge_lent;
-pub use prepare::judge_prepared;
-pub use prepare::prepare_tunnel;
+// Public functions: `judge_frame` gives the verdict, `payload` lends the part of a forwarded frame back. Both
+// take any input: a frame of a wrong length is refusal 16, a client that no rule fits refusal 17, and a count
+// above its limit is read as the limit. Nothing that is lent is written.
+use choice::Best;
+use choice::Choice;
+use choice::Ucid;
+use choice::choose_rule;
+use choice::is_better;
+use choice::rule_at;
+use matching::Packet;
+use matching::entry_of;
+use matching::fits_packet;
+use matching::names_number;
+use matching::read_packet;
+use matching::wrong_length;
 use table::Classifier;
+use table::Client;
+use table::Rule;
+use table::Table;
+use table::limited;
+use wire::number6;
+ghost use mathlib.Core.Path.{_≡_};
+ghost use mathlib.Core.Bool.{_&&_};
+ghost use Rattle.choice.specs.Best.{bestAfter};
+ghost use Rattle.matching.specs.Match.{namesNumber};
+ghost use Rattle.matching.specs.Entry.{entryOf, fitsPacket};
+ghost use Rattle.tunnel.specs.Judge.{matchPlace, ruleVerdict, verdictOf, payloadStart, payloadOf};
 
 // The verdict on a frame.
 pub enum Verdict {
@@ -28,44 +40,117 @@ pub enum Verdict {
     Filtered,
 }
 
-// What the classifiers look at in a frame: whether it is an IPv4 packet and has a port, the port, the addresses.
-pub struct Packet {
-    pub ipv4: bool,
-    pub ported: bool,
-    pub port: u16,
-    pub destination: u32,
-    pub source: u32,
+// The best so far after the classifier at place `at`.
+fn take_classifier(
+    best: Best,
+    at: usize,
+    rule: Rule,
+    cl: Classifier,
+    packet: Packet,
+    frame: &[u8],
+) -> Best
+    ensures { λ r. ⌜ r ≡ bestAfter best at (cl .priority) (cl .number) (fitsPacket (now (frame .entry)) packet (entryOf cl) && namesNumber rule (cl .number)) ⌝ }
+{
+    if !is_better(best, cl.priority, cl.number) {
+        return best;
+    }
+    let e = entry_of(cl);
+    if !fits_packet(e, packet, frame) {
+        return best;
+    }
+    if !names_number(rule, cl.number) {
+        return best;
+    }
+    Best {
+        place: at,
+        priority: cl.priority,
+        number: cl.number,
+    }
 }
 
-// A classifier with its absent parts filled in; `ports` is 0 where it names no port.
-pub struct Entry {
-    pub destination: u32,
-    pub source: u32,
-    pub mask: u32,
-    pub start: u16,
-    pub end: u16,
-    pub number: u16,
-    pub ports: u8,
+// The place of the matching classifier; the number of classifiers where none matches.
+fn match_place(table: Table, rule: Rule, frame: &[u8]) -> usize
+    ensures { λ r. ⌜ r ≡ matchPlace table rule (now (frame .entry)) ⌝ }
+{
+    let n = limited(table.classifiercount, 32);
+    let packet = read_packet(frame);
+    if !packet.ipv4 {
+        return n;
+    }
+    let mut best = Best {
+        place: 32,
+        priority: 0,
+        number: 0,
+    };
+    let mut i: usize = 0;
+    while i < n {
+        let cl = table.classifiers[i];
+        best = take_classifier(best, i, rule, cl, packet, frame);
+        i += 1;
+    }
+    let place = best.place;
+    if place == 32 {
+        return n;
+    }
+    place
 }
 
-// Classifiers in matching order: the first `count` places are used.
-pub struct Kept {
-    pub count: usize,
-    pub list: [Classifier; 32],
+// The verdict of a chosen rule on a frame.
+fn judge_rule(table: Table, rule: Rule, frame: &[u8]) -> Verdict
+    ensures { λ r. ⌜ r ≡ ruleVerdict table rule (now (frame .entry)) ⌝ }
+{
+    if number6(frame, 0) != rule.tunnel {
+        return Verdict::Other;
+    }
+    if rule.numbercount == 0 {
+        return Verdict::Forward(0);
+    }
+    let k = match_place(table, rule, frame);
+    if k < limited(table.classifiercount, 32) {
+        let cl = table.classifiers[k];
+        return Verdict::Forward(cl.number);
+    }
+    Verdict::Filtered
 }
 
-// A prepared tunnel. Mode 0: no rule fits; 1: the rule names no classifier; any other: by its entries,
-// whose parts stand in the arrays in matching order, the first `count` places used.
-#[repr(C)]
-pub struct Tunnel {
-    pub address: u64,
-    pub mode: u8,
-    pub count: u8,
-    pub destinations: [u32; 32],
-    pub sources: [u32; 32],
-    pub masks: [u32; 32],
-    pub starts: [u16; 32],
-    pub ends: [u16; 32],
-    pub numbers: [u16; 32],
-    pub ports: [u8; 32],
+// The verdict on a frame for a client: refusal 16, then 17, then the chosen rule's.
+pub fn judge_frame(table: Table, client: Client, ucid: Ucid, frame: &[u8]) -> Verdict
+    ensures { λ r. ⌜ r ≡ verdictOf table client ucid (now (frame .entry)) ⌝ }
+{
+    if wrong_length(frame) {
+        return Verdict::Refused(16);
+    }
+    match choose_rule(table, client, ucid) {
+        Choice::Refused(n) => Verdict::Refused(n),
+        Choice::Chosen(k) => {
+            let rule = rule_at(table, k);
+            judge_rule(table, rule, frame)
+        }
+    }
+}
+
+// Where the part begins that a verdict lends back of a frame of n bytes.
+fn payload_start(verdict: Verdict, n: usize) -> usize
+    ensures { λ r. ⌜ r ≡ payloadStart verdict n ⌝ }
+{
+    match verdict {
+        Verdict::Refused(_) => n,
+        Verdict::Other => n,
+        Verdict::Forward(_) => {
+            if n < 14 {
+                return n;
+            }
+            14
+        }
+        Verdict::Filtered => n,
+    }
+}
+
+// The part of the frame that the verdict lends back: of a forwarded frame the bytes from 14 on, else none.
+pub fn payload(verdict: Verdict, frame: &[u8]) -> &[u8]
+    ensures { λ r. ⌜ now r ≡ payloadOf verdict (now (frame .entry)) ⌝ }
+{
+    let n = frame.len();
+    let from = payload_start(verdict, n);
+    &frame[from..n]
 }

@@ -5,7 +5,9 @@ use borrow.Author.Needs.{needs}
 use borrow.Author.Tests.{lt-ltb, le-ltb}
 use Prim.Native.Nat.{ℕ, _≤_, _-_}
 use mathlib.Core.Path.{_≡_, refl, sym, ap, _∙_}
+use mathlib.Core.Bool.{Bool, false, _&&_}
 use mathlib.Core.List.{List}
+use mathlib.Core.Logic.{⊎-elim}
 use native.Mathlib.Nat.{le-of-eq}
 use native.Mathlib.Omega.{arith}
 use lib.ListN.{length, take, drop}
@@ -17,6 +19,7 @@ use Rattle.table.specs.Table.{rulesOf}
 use Rattle.choice.specs.declared.Best.{Best}
 use Rattle.choice.specs.declared.Ucid.{Ucid}
 use Rattle.choice.specs.declared.Choice.the-variants.{Chosen, Refused}
+use Rattle.choice.specs.Best.{isBetter, bestAfter}
 use Rattle.choice.specs.Choose.{fitsClient, chosenPlace, choiceOf}
 use Rattle.choice.proofs.Scan.{nothing, scan, scan-more, scan-end, scan-none, scan-some}
 use Rattle.choice.proofs.choose_rule.Statement.{statement}
@@ -26,11 +29,11 @@ abbrev walk : Client → Ucid → Best → ℕ → List Rule → Best
 walk c u b at rules = scan (λ rule. rule .priority) (λ rule. rule .number) (fitsClient c u) b at rules
 
 abbrev Inv-loop : tie.InvT-loop
-Inv-loop client ucid table n best₀ i₀ best i =
-    (i ≤ n) × (n ≤ 32) × (length (table .rules) ≡ 32) × (walk client ucid best i (drop i (take n (table .rules))) ≡ walk client ucid nothing 0 (rulesOf table))
+Inv-loop client ucid n best₀ rules i₀ best i =
+    (i ≤ n) × (n ≤ 32) × (length rules ≡ 32) × (walk client ucid best i (drop i (take n rules)) ≡ walk client ucid nothing 0 (take n rules))
 
 abbrev μ-loop : tie.MeasureT-loop
-μ-loop client ucid table n best₀ i₀ best i = n - i
+μ-loop client ucid n best₀ rules i₀ best i = n - i
 
 -- the answer of a whole walk over the rules
 module _ (t : Table) (c : Client) (u : Ucid) (long : length (t .rules) ≡ 32) (b : Best) (e : b ≡ walk c u nothing 0 (rulesOf t)) where
@@ -48,15 +51,32 @@ module _ (t : Table) (c : Client) (u : Ucid) (long : length (t .rules) ≡ 32) (
       let found = scan-some (λ rule. rule .priority) (λ rule. rule .number) (fitsClient c u) (rulesOf t) few (λ h. some (ap (λ (x : Best). x .place) e ∙ h)) in
       rw (found .0, lt-ltb _ _ (found .1), ← e)
 
+-- a rule that may not win leaves the best as it was
+stays : (b : Best) (at p n : ℕ) (ok : Bool) → isBetter b p n && ok ≡ false → bestAfter b at p n ok ≡ b
+unfolding bestAfter
+stays b at p n ok e = rw e
+
 loop-holds : tie.Need-loop-holds Inv-loop μ-loop
-unfolding rulesOf
 loop-holds c =
-    (search needs, rw (c .limited .ensures) (limitedTo-le 32 (c .before .args .t1 .rulecount)), search (needs, length-mapped), rw (c .limited .ensures))
+    (search needs, rw (c .before .limited .ensures) (limitedTo-le 32 (c .before .before .args .table .rulecount)), search (needs, length-mapped), refl)
 
 loop-again : tie.Need-loop-again Inv-loop μ-loop
 loop-again c =
-    let inv = c .before .before .before .loop .inv in
-    (search needs, inv .1, inv .2, rw (c .take-rule .ensures) (sym (scan-more _ _ _ _ _ _ _ _ (c .before .before .loop-test .taken) (omega arith)) ∙ inv .3))
+    let inv = c .before .before .before .before .loop .inv in
+    ⊎-elim
+    (λ w. (search needs, inv .1, inv .2, rw (w .3 ∙ w .2 .ensures) (sym (scan-more _ _ _ _ _ _ _ _ (c .before .before .before .loop-test .taken) (omega arith)) ∙ inv .3)))
+    (λ w. (search needs, inv .1, inv .2, rw (w .1 ∙ sym (stays _ (c .before .before .before .before .loop .i) _ _ _ (c .before .may-win .ensures (w .0 .left) (c .before .before .before .before .before .before .before .args .ucid)))) (sym (scan-more _ _ _ _ _ _ _ _ (c .before .before .before .loop-test .taken) (omega arith)) ∙ inv .3)))
+    (c .if1 .came)
+
+returns : tie.Need-returns Inv-loop μ-loop
+unfolding rulesOf
+returns c =
+    refuses _ _ _ (c .before .before .loop .inv .2) _ (rw (c .before .before .before .before .limited .ensures) at (sym (scan-end _ _ _ _ _ _ _ (c .before .loop-test .left)) ∙ c .before .before .loop .inv .3)) (c .if2 .taken)
+
+returns-2 : tie.Need-returns-2 Inv-loop μ-loop
+unfolding rulesOf
+returns-2 c =
+    chooses _ _ _ (c .before .before .loop .inv .2) _ (rw (c .before .before .before .before .limited .ensures) at (sym (scan-end _ _ _ _ _ _ _ (c .before .loop-test .left)) ∙ c .before .before .loop .inv .3)) (c .if2 .left)
 
 pub choose-rule-spec : {M : Type 1} → statement M
 choose-rule-spec =
@@ -71,6 +91,9 @@ choose-rule-spec =
     (λ c κs. search needs)
     (λ c. search needs)
     (λ c. search needs)
+    (λ c κs. search needs)
+    (λ c. search needs)
+    (λ c. search needs)
     loop-again
-    (λ c. refuses _ _ _ (c .before .before .loop .inv .2) _ (sym (scan-end _ _ _ _ _ _ _ (c .before .loop-test .left)) ∙ c .before .before .loop .inv .3) (c .if1 .taken))
-    (λ c. chooses _ _ _ (c .before .before .loop .inv .2) _ (sym (scan-end _ _ _ _ _ _ _ (c .before .loop-test .left)) ∙ c .before .before .loop .inv .3) (c .if1 .left)))
+    returns
+    returns-2)

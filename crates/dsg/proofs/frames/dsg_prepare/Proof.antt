@@ -13,13 +13,13 @@ use Rattle.dsg.proofs.Walk.{yes}
 use denote.Struct.Laws as LL
 use Rattle.dsg_frames.specs.Frames.{clientOf}
 use Rattle.dsg_frames.specs.Frames.{ucidOf}
-use Rattle.tunnel.specs.Prepared.{preparedTunnel}
+use Rattle.prepared.specs.Prepared.{preparedTunnel}
 use Rattle.table.specs.declared.Table.{Table}
 use Rattle.table.proofs.Table as D0
 use Rattle.table.proofs.Table.Laws as D0′
-use Rattle.tunnel.specs.declared.Tunnel.{Tunnel}
-use Rattle.tunnel.proofs.Tunnel as D1
-use Rattle.tunnel.proofs.Tunnel.Laws as D1′
+use Rattle.prepared.specs.declared.Tunnel.{Tunnel}
+use Rattle.prepared.proofs.Tunnel as D1
+use Rattle.prepared.proofs.Tunnel.Laws as D1′
 use Rattle.dsg_frames.proofs.prepare_value as prepare-value
 use Rattle.dsg_frames.proofs.prepare_value.Symbol as prepare-value-def
 use Rattle.dsg_frames.proofs.prepare_value.Symbol.{name as #dsg_frames·prepare-value}

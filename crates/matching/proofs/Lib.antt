@@ -1,0 +1,2 @@
+-- Entries: an entry matches where its classifier does.
+pub mod Entries

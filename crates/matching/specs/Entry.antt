@@ -1,0 +1,49 @@
+-- Entry: a classifier with its absent parts filled in, and what of a frame it is compared with.
+--
+--   packetOf frame        the addresses of a frame; 0 where it is no IPv4 packet
+--   entryOf cl            the entry of a classifier: no source is mask 0 and source 0
+--   fitsPacket frame p e  whether an IPv4 packet, with the frame's port, fits an entry
+--   matchesEntry frame e  whether an entry matches a frame
+--
+-- That `matchesEntry frame (entryOf cl)` is `matchesFrame frame cl` is a law in proofs/Entries.antt.
+-- Trusts: nothing.
+use Prim.Native.Nat.{ℕ}
+use mathlib.Core.Bool.{Bool, true, false, cond, not, _&&_, _||_}
+use mathlib.Core.List.{List}
+use lib.Bits.{bitAnd}
+use lib.Dec.{eqb}
+use Rattle.table.specs.declared.Classifier.{Classifier}
+use Rattle.table.specs.Table.{isPresent}
+use Rattle.matching.specs.declared.Packet.{Packet}
+use Rattle.matching.specs.declared.Entry.{Entry}
+use Rattle.matching.specs.Match.{isIpv4, sourceAt, destinationAt, portWithin, presentOr, maskOf, startOf, endOf}
+
+unfoldable pub packetOf : List ℕ → Packet
+packetOf frame =
+    cond (isIpv4 frame)
+    (record { ipv4 = true; destination = destinationAt frame; source = sourceAt frame })
+    (record { ipv4 = false; destination = 0; source = 0 })
+
+-- 1 where one of two marks says present
+abbrev pub portsOf : ℕ → ℕ → ℕ
+portsOf hasstart hasend = cond (isPresent hasstart || isPresent hasend) 1 0
+
+unfoldable pub entryOf : Classifier → Entry
+entryOf cl = record {
+  destination = cl .destination;
+  source = presentOr (cl .hassource) (cl .source) 0;
+  mask = presentOr (cl .hassource) (maskOf cl) 0;
+  start = startOf cl;
+  end = endOf cl;
+  number = cl .number;
+  ports = portsOf (cl .hasstart) (cl .hasend);
+}
+
+unfoldable pub fitsPacket : List ℕ → Packet → Entry → Bool
+fitsPacket frame p e =
+    eqb (p .destination) (e .destination)
+    && (eqb (bitAnd (p .source) (e .mask)) (e .source)
+    && (not (isPresent (e .ports)) || portWithin frame (e .start) (e .end)))
+
+unfoldable pub matchesEntry : List ℕ → Entry → Bool
+matchesEntry frame e = packetOf frame .ipv4 && fitsPacket frame (packetOf frame) e

@@ -1,0 +1,80 @@
+-- Match: whether a frame has a right length, and whether a classifier matches it (document 01, "Choosing and judging").
+--
+--   wrongLength frame      under 14 or over 1,518 bytes
+--   addressAt frame        the number of the first six bytes
+--   namesNumber rule n     the rule names the classifier number n
+--   isIpv4 frame           EtherType 0800, length 34 or more, IP version 4
+--   sourceAt, destinationAt, portAt   the source and destination address, the destination port: behind a header of 20 bytes
+--   hasPort frame          protocol 6 or 17, fragment offset 0 (13 bits), length 38 or more
+--   portWithin frame a e   the frame has a port, and a <= port <= e
+--   presentOr mark v w     the value v of a part whose mark says present, else w
+--   maskOf, startOf, endOf, namesPort   the parts of a classifier, an absent one as the document fills it in
+--   fitsSource, fitsPort   the two conditions that a classifier may leave out; a mask alone is none
+--   matchesFrame frame cl  all of it
+--
+-- Lengths are the frame's. A byte beyond the frame's end counts as 0, and no condition looks at one.
+-- Tested by: random frames against the other program. Trusts: nothing.
+use Prim.Native.Nat.{ℕ, _/_, _%_}
+use mathlib.Core.Bool.{Bool, cond, not, _&&_, _||_}
+use mathlib.Core.List.{List}
+use lib.Bits.{bitAnd}
+use lib.ListN.{length, getD}
+use lib.Dec.{ltb, leb, eqb}
+use Rattle.table.specs.declared.Rule.{Rule}
+use Rattle.table.specs.declared.Classifier.{Classifier}
+use Rattle.table.specs.Table.{isPresent, numbersOf}
+use Rattle.wire.specs.Bytes.{numberAt}
+use Rattle.choice.specs.Best.{anyOf}
+
+unfoldable pub wrongLength : List ℕ → Bool
+wrongLength frame = ltb (length frame) 14 || ltb 1518 (length frame)
+
+unfoldable pub addressAt : List ℕ → ℕ
+addressAt frame = numberAt 6 frame 0
+
+unfoldable pub namesNumber : Rule → ℕ → Bool
+namesNumber rule n = anyOf (eqb n) (numbersOf rule)
+
+unfoldable pub isIpv4 : List ℕ → Bool
+isIpv4 frame = leb 34 (length frame) && (eqb (numberAt 2 frame 12) 2048 && eqb (getD frame 14 0 / 16) 4)
+
+unfoldable pub sourceAt : List ℕ → ℕ
+sourceAt frame = numberAt 4 frame 26
+
+unfoldable pub destinationAt : List ℕ → ℕ
+destinationAt frame = numberAt 4 frame 30
+
+unfoldable pub portAt : List ℕ → ℕ
+portAt frame = numberAt 2 frame 36
+
+unfoldable pub hasPort : List ℕ → Bool
+hasPort frame =
+    leb 38 (length frame) && (eqb (numberAt 2 frame 20 % 8192) 0 && (eqb (getD frame 23 0) 6 || eqb (getD frame 23 0) 17))
+
+unfoldable pub portWithin : List ℕ → ℕ → ℕ → Bool
+portWithin frame start end = hasPort frame && (leb start (portAt frame) && leb (portAt frame) end)
+
+abbrev pub presentOr : ℕ → ℕ → ℕ → ℕ
+presentOr mark value other = cond (isPresent mark) value other
+
+abbrev pub maskOf : Classifier → ℕ
+maskOf cl = presentOr (cl .hasmask) (cl .mask) 4294967295
+
+abbrev pub startOf : Classifier → ℕ
+startOf cl = presentOr (cl .hasstart) (cl .start) 0
+
+abbrev pub endOf : Classifier → ℕ
+endOf cl = presentOr (cl .hasend) (cl .end) 65535
+
+abbrev pub namesPort : Classifier → Bool
+namesPort cl = isPresent (cl .hasstart) || isPresent (cl .hasend)
+
+unfoldable pub fitsSource : List ℕ → Classifier → Bool
+fitsSource frame cl = not (isPresent (cl .hassource)) || eqb (bitAnd (sourceAt frame) (maskOf cl)) (cl .source)
+
+unfoldable pub fitsPort : List ℕ → Classifier → Bool
+fitsPort frame cl = not (namesPort cl) || portWithin frame (startOf cl) (endOf cl)
+
+unfoldable pub matchesFrame : List ℕ → Classifier → Bool
+matchesFrame frame cl =
+    isIpv4 frame && (eqb (destinationAt frame) (cl .destination) && (fitsSource frame cl && fitsPort frame cl))
