@@ -13,11 +13,13 @@
  *   - what a function may write overlaps nothing else that is lent to the same call.
  * Everything else is tested: no value of a record, no length and no byte is an error of the caller. A record that no
  * calls could have made counts as nothing collected (collection) or as Idle (modem), a count above its limit is read
- * as the limit (table, tunnel), and a number that names no event moves only the clock.
+ * as the limit (table, tunnel), and a number that names no event is an event that changes nothing by itself.
  *
  * A refusal is a number, DSG_REFUSED_..: document 01's, and one of our own above them. After a refusal every record
  * and every buffer that was lent holds what it held before (where dsg_receive takes a body whose message is then
- * refused, the pieces stay collected and the table is as before).
+ * refused, the pieces stay collected and the table is as before). Fields of an answer that its kind does not use are 0.
+ * The bytes between the fields of a record mean nothing and may change at any call that is lent the record to write:
+ * compare records field by field.
  *
  * Memory that a board needs: the records below and two buffers of DSG_BUFFER_BYTES, some 55,000 bytes. Stack, as
  * examples/stack.c measures it: dsg_receive 93,000 bytes, dsg_read 66,000, dsg_list_body 141,000, dsg_empty_table 29,000,
@@ -222,7 +224,7 @@ struct dsg_collected {
  * Lent: the record, a slot buffer and a join buffer of DSG_BUFFER_BYTES or more, the body.
  * Written: the record; of the slots, the bytes of the piece; of the join buffer, the bytes of a message that came in
  *   more pieces than one, at its start. Pass the same record and the same buffers, untouched, each time.
- * Refused (kind 0): nothing is written.
+ * Refused (kind 0): all that was lent holds what it held.
  * Definition: collector/specs/Step collectStep; dsg_pieces/specs/Bodies collectedOf. */
 struct dsg_collected dsg_collect(struct dsg_collection *held, uint8_t *slots, size_t slots_length, uint8_t *join,
                                  size_t join_length, const uint8_t *body, size_t body_length);
@@ -234,7 +236,7 @@ struct dsg_read_answer {
 
 /* Reads a whole message.
  * Lent: the table, the message. Written: the table, where the message is accepted; nothing of what it held is kept.
- * Refused (number not 0): nothing is written.
+ * Refused (number not 0): the table holds what it held.
  * Definition: reader/specs/Read readTable; dsg_tables/specs/Tables readAnswer. */
 struct dsg_read_answer dsg_read(struct dsg_table *table, const uint8_t *message, size_t length);
 
@@ -254,7 +256,7 @@ struct dsg_received {
 };
 
 /* Takes one body and, where it completes a message, reads that: dsg_collect and then dsg_read.
- * Lent, written: as by these two. A refused body writes nothing; a refused message leaves the table as it was, and the
+ * Lent, written: as by these two. A refused body changes nothing; a refused message leaves the table as it was, and the
  *   collection and the buffers with the pieces of that message, so that a repeat is a repeat.
  * Definition: receiver/specs/Receive receiveStep; dsg_pieces/specs/Bodies receivedOf. */
 struct dsg_received dsg_receive(struct dsg_collection *held, struct dsg_table *table, uint8_t *slots,
@@ -307,7 +309,8 @@ struct dsg_verdict dsg_judge_prepared(const struct dsg_tunnel *tunnel, const uin
 /* ---- the modem ---------------------------------------------------------------------------------------------- */
 
 /* Events, in the order of document 01's table. What each carries is in brackets; an argument that it does not carry is
- * not looked at. Any other number, a permission other than 0 and 1 and a UCID over 255 only move the clock. */
+ * not looked at. Any other number, a permission other than 0 and 1 and a UCID over 255 name no event: the clock and the
+ * running timers move as at any event, and nothing else does. In Idle every event but DSG_START changes nothing at all. */
 enum dsg_event_kind {
     DSG_START = 1, /* (a: 1 may transmit, 0 may not) */
     DSG_LOCKED = 2,
@@ -324,7 +327,7 @@ enum dsg_event_kind {
 };
 
 /* One event at a clock in milliseconds, which runs over its top. Returns 0, or 18 where the clock went back.
- * Lent: the modem. Written: the modem. Refused (18): nothing is written.
+ * Lent: the modem. Written: the modem. Refused (18): the modem holds what it held.
  * Definition: modem/specs/Numbers numberedStep; dsg_events/specs/Events eventStepped. */
 uint32_t dsg_event(struct dsg_modem *modem, uint32_t clock, uint8_t event, uint16_t a, uint16_t b, uint16_t c,
                    uint16_t d);
@@ -343,12 +346,13 @@ struct dsg_listed {
 
 /* The text of a table that came under a change count: the lines that dcdlist writes.
  * Lent: the table, a buffer of DSG_LISTING_BYTES or more. Written: the text, at the buffer's start; no byte behind it.
- * Refused (number not 0): nothing is written. Definition: listing/specs/Text tableText; dsg_tables/specs/Tables listedAs. */
+ * Refused (number not 0): the buffer holds what it held.
+ * Definition: listing/specs/Listing listing, listing/specs/Text tableText; dsg_tables/specs/Tables listAfter. */
 struct dsg_listed dsg_list_table(const struct dsg_table *table, uint8_t count, uint8_t *out, size_t out_length);
 
 /* What dcdlist writes for one body, taken with nothing collected: a table, a refusal, or how many pieces it waits for.
- * Lent, written, refused: as dsg_list_table. It alone takes much stack (two buffers of its own).
- * Definition: bodies/specs/Body bodyText; dsg_tables/specs/Tables listedAs. */
+ * Lent, written, refused: as dsg_list_table. It takes the most stack: it has two buffers of its own.
+ * Definition: listing/specs/Listing listing, bodies/specs/Body bodyText; dsg_tables/specs/Tables bodyAfter. */
 struct dsg_listed dsg_list_body(const uint8_t *body, size_t body_length, uint8_t *out, size_t out_length);
 
 /* ---- layout ------------------------------------------------------------------------------------------------- */

@@ -4,8 +4,8 @@
 --   withClassifierChild at len q   the classifier q with the child of 23 at `at`, of len bytes, taken up
 --   classifierAt msg at            the classifier of the element at `at`: its children, in byte order, taken up into an empty classifier
 --
--- A part that does not come stays absent: its mark and its value are 0. No test is made here: a child of another type is passed over,
--- and a byte beyond the message counts as 0. Messages with such children are refused elsewhere.
+-- A part that does not come stays absent: its mark and its value are 0. A child of an unlisted type is passed over, as document 01 has it.
+-- No test is made here: a byte beyond the message counts as 0; messages with such children are refused by tests 6 to 13.
 -- Tested by: proofs/Bench.antt of the crate reader.
 -- Trusts: nothing.
 use Prim.Native.Nat.{ℕ, _+_}

@@ -4,8 +4,8 @@
 --   withConfigurationChild at len q   the configuration q with the child at `at`, of len bytes, taken up
 --   configurationAt msg at   the configuration of the element at `at`: its children, in byte order, taken up into an empty one
 --
--- No test is made here: a child of another type and a channel beyond 32 are passed over, and a byte beyond the message counts as 0.
--- Messages with such children are refused elsewhere.
+-- A child of an unlisted type is passed over, as document 01 has it. No test is made here: a channel beyond 32 is passed over too, and a
+-- byte beyond the message counts as 0; messages with these are refused by tests 6 to 13.
 -- Tested by: proofs/Bench.antt of the crate reader.
 -- Trusts: nothing.
 use Prim.Native.Nat.{ℕ, _+_}

@@ -4,8 +4,9 @@
 --   withRuleChild at len q   the rule q with the child at `at`, of len bytes, taken up
 --   ruleAt msg at        the rule of the element at `at`: its children, in byte order, taken up into an empty rule
 --
--- No test is made here: a child of another type is passed over, a ninth entry of a list and a 50.3 over 16 bytes too, a second copy
--- takes the first one's place, and a byte beyond the message counts as 0. Messages with such children are refused elsewhere.
+-- A child of an unlisted type is passed over, as document 01 has it. No test is made here: a ninth entry of a list and a 50.3 over 16 bytes
+-- are passed over too, a second copy takes the first one's place, and a byte beyond the message counts as 0; messages with these are
+-- refused by tests 6 to 13.
 -- Tested by: proofs/Bench.antt of the crate reader.
 -- Trusts: nothing.
 use Prim.Native.Nat.{ℕ, _+_}

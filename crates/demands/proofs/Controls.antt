@@ -3,19 +3,18 @@
 --   no-refuse-all              reading: one that refuses every message
 --   no-one-tunnel              choosing: one that gives every client the same rule
 --   no-still-modem             the step: one that returns the record untouched
---   no-first-piece-completes   collecting: one that completes at the first piece
---   no-invented-slots          collecting: one that answers Waiting with a number of its own
+--   no-first-piece-completes   collecting: one that completes at the first piece of several, whatever it answers later
+--   no-invented-slots          collecting: one that once, after some history, answers Waiting with another number than that of the empty slots
 --
--- Each is over any function that meets the promise, not over ours. What our collector answers over whole histories, and that its number
--- of empty slots is that of the run, is in crate collector_demands, proofs/Controls.antt, which the last two cite; the crates reader and
--- modem have controls of their own, cited here.
+-- Each is over any function that meets the promise, not over ours. The last two hold from any lent record with nothing collected and any
+-- buffers of 24,000 bytes or more. The crates collector_demands, reader and modem have controls of their own, cited here.
 -- Trusts: nothing.
-use Prim.Native.Nat.{ℕ, _-_, _≤_}
+use Prim.Native.Nat.{ℕ, _≤_}
 use mathlib.Core.Path.{_≡_, refl, sym, ap, _∙_}
-use mathlib.Core.Bool.{Bool, true, false}
+use mathlib.Core.Bool.{true, false}
 use mathlib.Core.List.{List, [], _∷_}
 use native.Mathlib.Omega.{arith}
-use lib.ListN.{length, replicate, length-replicate}
+use lib.ListN.{length, replicate}
 use Rattle.table.specs.declared.Client.{Client}
 use Rattle.table.specs.declared.Rule.{Rule}
 use Rattle.table.specs.declared.Table.{Table}
@@ -34,12 +33,11 @@ use Rattle.modem.specs.declared.Event.{Event}
 use Rattle.modem.specs.declared.Stepped.{Stepped}
 use Rattle.modem.specs.Step.{steppedModem}
 use Rattle.modem.proofs.Controls as modem
-use Rattle.collector.specs.Answers.{Said, waiting}
-use Rattle.collector.specs.Step.{bodyRefusal, wellMade, emptyCollection, After, collectStep}
+use Rattle.collector.specs.Answers.{waiting}
+use Rattle.collector.specs.Step.{numberOf as pieces, wellMade, After}
 use Rattle.collector.specs.declared.Collection.{Collection}
-use Rattle.collector_demands.specs.Runs.{accepts, Reply}
+use Rattle.collector_demands.specs.Runs.{accepts, lookup, runOf, missing, Reply}
 use Rattle.collector_demands.specs.Demand.{Lent, isComplete}
-use Rattle.collector_demands.proofs.Demands.{blank-nothing}
 use Rattle.collector_demands.proofs.Controls as collector
 
 -- ---- reading
@@ -79,41 +77,15 @@ pub no-still-modem : (f : Modem → ℕ → Event → Stepped) → ((m : Modem) 
     → ((m : Modem) (now : ℕ) (ev : Event) → f m now ev .modem ≡ m) → ⊥
 no-still-modem = modem.no-still-modem
 
--- ---- collecting
-
--- nothing collected, and two buffers that are long enough
-lending : Lent
-lending = record { held = emptyCollection 0 0; slots = replicate 24000 0; join = replicate 24000 0 }
-
-long : 24000 ≤ length (replicate {A = ℕ} 24000 0)
-long = omega (arith, length-replicate {A = ℕ} 24000 0)
-
--- the first piece, empty, of a message in n
-abbrev firstOf : ℕ → List ℕ
-firstOf n = 7 ∷ n ∷ 1 ∷ []
+-- ---- collecting: from a record with nothing collected, over any history of bodies
 
 module _ (f : Collection → List ℕ → List ℕ → List ℕ → After) (meets : collector.Promise f) where
-  -- what f answers to the first of n
-  first-answer : (n : ℕ) → accepts (firstOf n) ≡ true → 2 ≤ n → f (lending .held) (lending .slots) (lending .join) (firstOf n) .answer ≡ waiting (n - 1)
-  unfolding lending collector.lentBy
-  first-answer n a two = ap (λ (r : Reply). r .answer) (collector.no-first-piece-completes f meets lending long long blank-nothing (firstOf n) a two)
+  module _ (s : Lent) (room : 24000 ≤ length (s .slots)) (space : 24000 ≤ length (s .join)) (nothing : wellMade (s .held) ≡ false) where
+    pub no-first-piece-completes : (b : List ℕ) → accepts b ≡ true → 2 ≤ pieces b → isComplete (f (s .held) (s .slots) (s .join) b .answer) ≡ 1 → ⊥
+    unfolding collector.lentBy
+    no-first-piece-completes b a two completes =
+        let waits = ap (λ (r : Reply). isComplete (r .answer)) (collector.no-first-piece-completes f meets s room space nothing b a two) in
+        omega arith
 
-  two-accepted : accepts (firstOf 2) ≡ true
-  unfolding accepts bodyRefusal
-  two-accepted = refl
-
-  three-accepted : accepts (firstOf 3) ≡ true
-  unfolding accepts bodyRefusal
-  three-accepted = refl
-
-  pub no-first-piece-completes : ((s : Lent) (b : List ℕ) → accepts b ≡ true → isComplete (f (s .held) (s .slots) (s .join) b .answer) ≡ 1) → ⊥
-  no-first-piece-completes completes =
-      let one = completes lending (firstOf 2) two-accepted in
-      let none = ap isComplete (first-answer 2 two-accepted (omega arith)) in
-      omega arith
-
-  pub no-invented-slots : (k : ℕ) → ((s : Lent) (b : List ℕ) → accepts b ≡ true → f (s .held) (s .slots) (s .join) b .answer ≡ waiting k) → ⊥
-  no-invented-slots k invents =
-      let e : waiting 1 ≡ waiting 2 = sym (first-answer 2 two-accepted (omega arith)) ∙ invents lending (firstOf 2) two-accepted ∙ sym (invents lending (firstOf 3) three-accepted) ∙ first-answer 3 three-accepted (omega arith) in
-      let z : _≡_ {A = ℕ} 1 2 = cc in
-      omega arith
+    pub no-invented-slots : (h : List (List ℕ)) (b : List ℕ) (k : ℕ) → (k ≡ missing (lookup (runOf (b ∷ h))) (pieces b) → ⊥) → collector.replyBy f meets s h b .answer ≡ waiting k → ⊥
+    no-invented-slots h b k other answers = other (collector.no-invented-slots f meets s room space nothing h b k answers)

@@ -3,9 +3,9 @@
 -- Demand1: what a refusal leaves, and its numbers; with Demand1Receive, Demand1Frames and, as a C host sees it, Demand1C.
 -- Demand3: a cut message completes once and is read as the uncut one.
 -- OneAnswer, OneAnswerParts, OneAnswerC: every contract admits one answer.      Values: both, of the functions under the C interface.
--- Starred: the starred examples, one list under one theorem.
+-- Starred: the starred examples, one list under one theorem.      Listed: the example of dcdlist.
 -- Sentences: sentences of document 01 that follow from the definitions.
--- Controls: wrong programs refuted.
+-- Silence: after Disable the transmitter stays off.      Controls: wrong programs refuted.
 pub mod Contract
 pub mod Parts
 pub mod Demand1
@@ -20,5 +20,7 @@ pub mod OneAnswer
 pub mod OneAnswerParts
 pub mod OneAnswerC
 pub mod Starred
+pub mod Listed
 pub mod Sentences
+pub mod Silence
 pub mod Controls

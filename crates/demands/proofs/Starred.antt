@@ -103,7 +103,7 @@ expected =
 
 -- ---- the readings, as crate reader computes them
 
-read-M : (given : Table) → readTable given M ≡ reader.accepted tableM
+pub read-M : (given : Table) → readTable given M ≡ reader.accepted tableM
 read-M given = ap (λ (l : List Reading). getD l 8 (reader.accepted emptyTable)) (reader.starred given)
 
 read-empty : (given : Table) → readTable given [] ≡ reader.accepted emptyTable

@@ -1,5 +1,6 @@
 -- Writing: what the private writers ask and leave (no public contract cites it).
 --
+--   fields                       a word with a number, and another behind it
 --   Fits out at text             the text has room in the buffer from `at` on
 --   Wrote out at text new next   the buffer is now `new`: the text from `at` on, all else as it was; `next` is the place behind it
 --   Short most text              the text has at most `most` bytes
@@ -8,9 +9,13 @@
 -- Trusts: nothing.
 use Prim.Native.Nat.{ℕ, _+_, _≤_}
 use mathlib.Core.Path.{_≡_}
-use mathlib.Core.List.{List}
+use mathlib.Core.List.{List, _++_}
 use lib.ListN.{length}
 use Rattle.wire.specs.Bytes.{pasted}
+use Rattle.listing.specs.Text.{field}
+
+unfoldable pub fields : List ℕ → ℕ → List ℕ → ℕ → List ℕ
+fields first m second n = field first m ++ field second n
 
 pub record Fits (out : List ℕ) (at : ℕ) (text : List ℕ) : Type 0 where
   pub room : at + length text ≤ length out

@@ -8,8 +8,9 @@ ghost use Rattle.table.specs.Table.{rulesOf, classifiersOf, channelsOf};
 ghost use Rattle.listing.specs.Text.{sizesLine, ruleLine, classifierLine, channelLine, timersLine, linesOf, refusalText, waitingText};
 ghost use Rattle.listing.specs.Writing.{Lined};
 use crate::text::put_address;
-use crate::text::put_field;
-use crate::text::put_word;
+use crate::text::put_last;
+use crate::text::put_last_two;
+use crate::text::put_two;
 use table::Classifier;
 use table::Rule;
 use table::Table;
@@ -23,11 +24,15 @@ pub(crate) fn put_sizes(count: u8, table: Table, out: &mut [u8], at: usize) -> u
     let rules = table::limited(table.rulecount, 32);
     let classifiers = table::limited(table.classifiercount, 32);
     let channels = table::limited(table.channelcount, 32);
-    let a = put_field(b"dcd ", count as u64, out, at);
-    let b = put_field(b" rules ", rules as u64, out, a);
-    let c = put_field(b" classifiers ", classifiers as u64, out, b);
-    let d = put_field(b" channels ", channels as u64, out, c);
-    put_word(b"\n", out, d)
+    let next = put_two(b"dcd ", count as u64, b" rules ", rules as u64, out, at);
+    put_last_two(
+        b" classifiers ",
+        classifiers as u64,
+        b" channels ",
+        channels as u64,
+        out,
+        next,
+    )
 }
 
 // The line of a rule.
@@ -37,12 +42,23 @@ fn put_rule(rule: Rule, out: &mut [u8], at: usize) -> usize
 {
     let clients = table::limited(rule.clientcount, 8);
     let numbers = table::limited(rule.numbercount, 8);
-    let a = put_field(b"rule ", rule.number as u64, out, at);
-    let b = put_field(b" priority ", rule.priority as u64, out, a);
-    let c = put_address(b" tunnel ", rule.tunnel, out, b);
-    let d = put_field(b" clients ", clients as u64, out, c);
-    let e = put_field(b" classifiers ", numbers as u64, out, d);
-    put_word(b"\n", out, e)
+    let a = put_two(
+        b"rule ",
+        rule.number as u64,
+        b" priority ",
+        rule.priority as u64,
+        out,
+        at,
+    );
+    let b = put_address(b" tunnel ", rule.tunnel, out, a);
+    put_last_two(
+        b" clients ",
+        clients as u64,
+        b" classifiers ",
+        numbers as u64,
+        out,
+        b,
+    )
 }
 
 // The line of a classifier.
@@ -50,9 +66,14 @@ fn put_classifier(classifier: Classifier, out: &mut [u8], at: usize) -> usize
     requires { ⌜ at + 30 ≤ length (now out) ⌝ }
     ensures { λ r. ⌜ Lined 30 (now (out .entry)) at (classifierLine classifier) (now (out .exit)) r ⌝ }
 {
-    let a = put_field(b"classifier ", classifier.number as u64, out, at);
-    let b = put_field(b" priority ", classifier.priority as u64, out, a);
-    put_word(b"\n", out, b)
+    put_last_two(
+        b"classifier ",
+        classifier.number as u64,
+        b" priority ",
+        classifier.priority as u64,
+        out,
+        at,
+    )
 }
 
 // The line of a channel.
@@ -60,8 +81,7 @@ fn put_channel(hertz: u32, out: &mut [u8], at: usize) -> usize
     requires { ⌜ at + 19 ≤ length (now out) ⌝ }
     ensures { λ r. ⌜ Lined 19 (now (out .entry)) at (channelLine hertz) (now (out .exit)) r ⌝ }
 {
-    let a = put_field(b"channel ", hertz as u64, out, at);
-    put_word(b"\n", out, a)
+    put_last(b"channel ", hertz as u64, out, at)
 }
 
 // The line of the timer values.
@@ -69,11 +89,22 @@ pub(crate) fn put_timers(timers: TimerValues, out: &mut [u8], at: usize) -> usiz
     requires { ⌜ at + 31 ≤ length (now out) ⌝ }
     ensures { λ r. ⌜ Lined 31 (now (out .entry)) at (timersLine timers) (now (out .exit)) r ⌝ }
 {
-    let a = put_field(b"timers ", timers.tdsg1 as u64, out, at);
-    let b = put_field(b" ", timers.tdsg2 as u64, out, a);
-    let c = put_field(b" ", timers.tdsg3 as u64, out, b);
-    let d = put_field(b" ", timers.tdsg4 as u64, out, c);
-    put_word(b"\n", out, d)
+    let next = put_two(
+        b"timers ",
+        timers.tdsg1 as u64,
+        b" ",
+        timers.tdsg2 as u64,
+        out,
+        at,
+    );
+    put_last_two(
+        b" ",
+        timers.tdsg3 as u64,
+        b" ",
+        timers.tdsg4 as u64,
+        out,
+        next,
+    )
 }
 
 // The lines of a table's rules, 66 bytes each at most.
@@ -129,9 +160,7 @@ pub(crate) fn put_refusal(number: u8, offset: usize, out: &mut [u8], at: usize) 
     requires { ⌜ at + 36 ≤ length (now out) ⌝ }
     ensures { λ r. ⌜ Lined 36 (now (out .entry)) at (refusalText number offset) (now (out .exit)) r ⌝ }
 {
-    let a = put_field(b"refused ", number as u64, out, at);
-    let b = put_field(b" at ", offset as u64, out, a);
-    put_word(b"\n", out, b)
+    put_last_two(b"refused ", number as u64, b" at ", offset as u64, out, at)
 }
 
 // The line of an unfinished collection.
@@ -139,6 +168,5 @@ pub(crate) fn put_waiting(slots: u8, out: &mut [u8], at: usize) -> usize
     requires { ⌜ at + 12 ≤ length (now out) ⌝ }
     ensures { λ r. ⌜ Lined 12 (now (out .entry)) at (waitingText slots) (now (out .exit)) r ⌝ }
 {
-    let a = put_field(b"waiting ", slots as u64, out, at);
-    put_word(b"\n", out, a)
+    put_last(b"waiting ", slots as u64, out, at)
 }

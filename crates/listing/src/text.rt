@@ -3,10 +3,10 @@
 // Every function here is private to the crate, asks that its text has room at `at`, writes just that
 // text and answers the place behind it.
 ghost use mathlib.Core.Path.{_≡_};
-ghost use mathlib.Core.List.{[], _∷_};
+ghost use mathlib.Core.List.{[], _∷_, _++_};
 ghost use Prim.Native.Nat.{_<_};
 ghost use Rattle.listing.specs.Text.{digit, decimal, hexadecimal, field, address};
-ghost use Rattle.listing.specs.Writing.{Fits, Wrote};
+ghost use Rattle.listing.specs.Writing.{fields, Fits, Wrote};
 
 // The byte of a digit below 16.
 fn glyph(d: u64) -> u8
@@ -65,6 +65,47 @@ pub(crate) fn put_field(word: &[u8], n: u64, out: &mut [u8], at: usize) -> usize
 {
     let next = put_word(word, out, at);
     put_decimal(n, out, next)
+}
+
+// Writes a fixed word and a number behind it, and ends the line.
+pub(crate) fn put_last(word: &[u8], n: u64, out: &mut [u8], at: usize) -> usize
+    requires { ⌜ Fits (now out) at (field (now word) n ++ (10 ∷ [])) ⌝ }
+    ensures { λ r. ⌜ Wrote (now (out .entry)) at (field (now (word .entry)) n ++ (10 ∷ [])) (now (out .exit)) r ⌝ }
+{
+    let next = put_field(word, n, out, at);
+    put_byte(10, out, next)
+}
+
+// Writes two fixed words, a number behind each.
+pub(crate) fn put_two(
+    first: &[u8],
+    m: u64,
+    second: &[u8],
+    n: u64,
+    out: &mut [u8],
+    at: usize,
+) -> usize
+    requires { ⌜ Fits (now out) at (fields (now first) m (now second) n) ⌝ }
+    ensures { λ r. ⌜ Wrote (now (out .entry)) at (fields (now (first .entry)) m (now (second .entry)) n) (now (out .exit)) r ⌝ }
+{
+    let next = put_field(first, m, out, at);
+    put_field(second, n, out, next)
+}
+
+// Writes two fixed words, a number behind each, and ends the line.
+pub(crate) fn put_last_two(
+    first: &[u8],
+    m: u64,
+    second: &[u8],
+    n: u64,
+    out: &mut [u8],
+    at: usize,
+) -> usize
+    requires { ⌜ Fits (now out) at (fields (now first) m (now second) n ++ (10 ∷ [])) ⌝ }
+    ensures { λ r. ⌜ Wrote (now (out .entry)) at (fields (now (first .entry)) m (now (second .entry)) n ++ (10 ∷ [])) (now (out .exit)) r ⌝ }
+{
+    let next = put_two(first, m, second, n, out, at);
+    put_byte(10, out, next)
 }
 
 // Writes a fixed word and the twelve digits of a tunnel address behind it.

@@ -5,7 +5,7 @@
 --   readings s h              how often a complete message was reported for the bodies of h, accepted or refused
 --   ReadOnce s count message pieces
 --                             until the last piece missing comes nothing is read and the table stays; then the report and the table are
---                             those of the uncut message; whatever comes after changes neither
+--                             those of the uncut message; whatever arrives after, the table stays and nothing is read again
 --
 -- Cuttings, bodies and arrivals are those of collector_demands/specs/Demand.antt; a history has its newest body first.
 -- Tested by: the examples of cuttings and arrivals in collector_demands/proofs/Bench.antt.

@@ -1,13 +1,17 @@
--- `listing::lines::put_rule` writes `ruleLine`: its fields one behind the other.
+-- `listing::lines::put_rule` writes `ruleLine`: its parts one behind the other.
 -- Trusts: nothing.
+use Prim.Native.Nat.{ℕ}
 use mathlib.Core.Path.{_≡_, sym, ap, _∙_}
+use mathlib.Core.List.{List, _++_}
 use lib.ListN.{length}
 use borrow.Author.Needs.{needs}
+use Rattle.table.specs.declared.Rule.{Rule}
 use Rattle.table.specs.Table.{clientsOf, numbersOf}
 use Rattle.table.proofs.Laws.{length-clientsOf, length-numbersOf, length-mapped}
-use Rattle.listing.specs.Text.{field, ruleLine}
-use Rattle.listing.specs.Writing.{Fits, Short}
+use Rattle.listing.specs.Text.{ascii, address, ruleLine}
+use Rattle.listing.specs.Writing.{fields, Fits, Short}
 use Rattle.listing.proofs.Lengths.{ruleLine-short}
+use Rattle.listing.proofs.Halves.{ruleLine-halves}
 use Rattle.listing.proofs.Written.{fits-most, fits-same, fits-first, fits-rest, wrote-same, wrote-then}
 use Rattle.listing.proofs.lines.put_rule.Statement.{statement}
 use Rattle.listing.proofs.lines.put_rule.Tie as tie
@@ -19,40 +23,43 @@ clients c = c .limited .ensures ∙ sym (length-clientsOf _ (search (needs, leng
 numbers : (c : tie.After-limited2) → c .limited2 .result ≡ length (numbersOf (c .before .before .before .args .rule))
 numbers c = c .limited2 .ensures ∙ sym (length-numbersOf _ (search needs))
 
--- the line is short enough, and so has room
-short : (c : tie.Start) → Short 66 (ruleLine (c .args .rule))
+-- the line with the printed numbers
+printed : Rule → ℕ → ℕ → List ℕ
+printed r k n = fields (ascii "rule ") (r .number) (ascii " priority ") (r .priority) ++ (address (ascii " tunnel ") (r .tunnel) ++ (fields (ascii " clients ") k (ascii " classifiers ") n ++ ascii "\n"))
+
+printed-same : (r : Rule) {k k′ n n′ : ℕ} → k ≡ k′ → n ≡ n′ → printed r k n ≡ printed r k′ n′
+printed-same r {k} {k′} {n} {n′} p q = ap (λ (i : ℕ). printed r i n) p ∙ ap (printed r k′) q
+
+same : (c : tie.After-limited2) → printed (c .before .before .before .args .rule) (c .before .limited .result) (c .limited2 .result) ≡ ruleLine (c .before .before .before .args .rule)
+unfolding printed
+same c = printed-same (c .before .before .before .args .rule) (clients (c .before)) (numbers c) ∙ sym (ruleLine-halves (c .before .before .before .args .rule))
+
+-- it is short enough, and so has room
+short : (c : tie.After-limited2) → Short 66 (ruleLine (c .before .before .before .args .rule))
 short c = ruleLine-short _ (search needs) (search needs)
 
-fits : (c : tie.Start) → Fits (c .args .out .now) (c .args .at) (ruleLine (c .args .rule))
-fits c = fits-most 66 (c .pre) (short c)
+fits : (c : tie.After-limited2) → Fits (c .before .before .before .args .out .now) (c .before .before .before .args .at) (printed (c .before .before .before .args .rule) (c .before .limited .result) (c .limited2 .result))
+fits c = fits-same (sym (same c)) (fits-most 66 (c .before .before .before .pre) (short c))
 
-put-field-requires : tie.Need-put-field-requires
-unfolding ruleLine
-put-field-requires c κs = fits-first _ (fits (c .before .before .before .before .before .before))
-
-put-field-requires-2 : tie.Need-put-field-requires-2
-unfolding ruleLine
-put-field-requires-2 c κs = fits-first _ (fits-rest (fits (c .before .before .before .before .before .before .before .before .before .before .before .before)) (c .before .before .before .before .before .put-field .ensures))
+put-two-requires : tie.Need-put-two-requires
+unfolding printed
+put-two-requires c κs = fits-first _ (fits (c .before .before .before .before .before))
 
 put-address-requires : tie.Need-put-address-requires
-unfolding ruleLine
-put-address-requires c κs = fits-first _ (fits-rest (fits-rest (fits (c .before .before .before .before .before .before .before .before .before .before .before .before .before .before .before .before .before)) (c .before .before .before .before .before .before .before .before .before .before .put-field .ensures)) (c .before .before .before .before .put-field2 .ensures))
+unfolding printed
+put-address-requires c κs = fits-first _ (fits-rest (fits (c .before .before .before .before .before .before .before .before .before .before)) (c .before .before .before .before .put-two .ensures))
 
-put-field-requires-3 : tie.Need-put-field-requires-3
-unfolding ruleLine
-put-field-requires-3 c κs = fits-same (ap (field _) (sym (clients (c .before .before .before .before .before .before .before .before .before .before .before .before .before .before .before .before .before .before .before .before)))) (fits-first _ (fits-rest (fits-rest (fits-rest (fits (c .before .before .before .before .before .before .before .before .before .before .before .before .before .before .before .before .before .before .before .before .before .before)) (c .before .before .before .before .before .before .before .before .before .before .before .before .before .before .before .put-field .ensures)) (c .before .before .before .before .before .before .before .before .before .put-field2 .ensures)) (c .before .before .before .before .put-address .ensures)))
-
-put-field-requires-4 : tie.Need-put-field-requires-4
-unfolding ruleLine
-put-field-requires-4 c κs = fits-same (ap (field _) (sym (numbers (c .before .before .before .before .before .before .before .before .before .before .before .before .before .before .before .before .before .before .before .before .before .before .before .before)))) (fits-first _ (fits-rest (fits-rest (fits-rest (fits-rest (fits (c .before .before .before .before .before .before .before .before .before .before .before .before .before .before .before .before .before .before .before .before .before .before .before .before .before .before .before)) (c .before .before .before .before .before .before .before .before .before .before .before .before .before .before .before .before .before .before .before .before .put-field .ensures)) (c .before .before .before .before .before .before .before .before .before .before .before .before .before .before .put-field2 .ensures)) (c .before .before .before .before .before .before .before .before .before .put-address .ensures)) (wrote-same (ap (field _) (clients (c .before .before .before .before .before .before .before .before .before .before .before .before .before .before .before .before .before .before .before .before .before .before .before .before .before))) (c .before .before .before .before .put-field3 .ensures))))
-
-put-word-requires : tie.Need-put-word-requires
-unfolding ruleLine
-put-word-requires c κs = fits-rest (fits-rest (fits-rest (fits-rest (fits-rest (fits (c .before .before .before .before .before .before .before .before .before .before .before .before .before .before .before .before .before .before .before .before .before .before .before .before .before .before .before .before .before .before .before .before)) (c .before .before .before .before .before .before .before .before .before .before .before .before .before .before .before .before .before .before .before .before .before .before .before .before .before .put-field .ensures)) (c .before .before .before .before .before .before .before .before .before .before .before .before .before .before .before .before .before .before .before .put-field2 .ensures)) (c .before .before .before .before .before .before .before .before .before .before .before .before .before .before .put-address .ensures)) (wrote-same (ap (field _) (clients (c .before .before .before .before .before .before .before .before .before .before .before .before .before .before .before .before .before .before .before .before .before .before .before .before .before .before .before .before .before .before))) (c .before .before .before .before .before .before .before .before .before .put-field3 .ensures))) (wrote-same (ap (field _) (numbers (c .before .before .before .before .before .before .before .before .before .before .before .before .before .before .before .before .before .before .before .before .before .before .before .before .before .before .before .before .before))) (c .before .before .before .before .put-field4 .ensures))
+put-last-two-requires : tie.Need-put-last-two-requires
+unfolding printed
+put-last-two-requires c κs = fits-rest (fits-rest (fits (c .before .before .before .before .before .before .before .before .before .before .before .before .before .before .before .before)) (c .before .before .before .before .before .before .before .before .before .before .put-two .ensures)) (c .before .before .before .before .before .put-address .ensures)
 
 returns : tie.Need-returns
-unfolding ruleLine
-returns c = record { wrote = wrote-then (fits (c .before .before .before .before .before .before .before .before .before .before .before .before .before .before .before .before .before .before .before .before .before .before .before .before .before .before .before .before .before .before .before .before .before .before .before)) (c .before .before .before .before .before .before .before .before .before .before .before .before .before .before .before .before .before .before .before .before .before .before .before .before .before .before .before .before .put-field .ensures) (wrote-then (fits-rest (fits (c .before .before .before .before .before .before .before .before .before .before .before .before .before .before .before .before .before .before .before .before .before .before .before .before .before .before .before .before .before .before .before .before .before .before .before)) (c .before .before .before .before .before .before .before .before .before .before .before .before .before .before .before .before .before .before .before .before .before .before .before .before .before .before .before .before .put-field .ensures)) (c .before .before .before .before .before .before .before .before .before .before .before .before .before .before .before .before .before .before .before .before .before .before .put-field2 .ensures) (wrote-then (fits-rest (fits-rest (fits (c .before .before .before .before .before .before .before .before .before .before .before .before .before .before .before .before .before .before .before .before .before .before .before .before .before .before .before .before .before .before .before .before .before .before .before)) (c .before .before .before .before .before .before .before .before .before .before .before .before .before .before .before .before .before .before .before .before .before .before .before .before .before .before .before .before .put-field .ensures)) (c .before .before .before .before .before .before .before .before .before .before .before .before .before .before .before .before .before .before .before .before .before .before .put-field2 .ensures)) (c .before .before .before .before .before .before .before .before .before .before .before .before .before .before .before .before .before .put-address .ensures) (wrote-then (fits-rest (fits-rest (fits-rest (fits (c .before .before .before .before .before .before .before .before .before .before .before .before .before .before .before .before .before .before .before .before .before .before .before .before .before .before .before .before .before .before .before .before .before .before .before)) (c .before .before .before .before .before .before .before .before .before .before .before .before .before .before .before .before .before .before .before .before .before .before .before .before .before .before .before .before .put-field .ensures)) (c .before .before .before .before .before .before .before .before .before .before .before .before .before .before .before .before .before .before .before .before .before .before .put-field2 .ensures)) (c .before .before .before .before .before .before .before .before .before .before .before .before .before .before .before .before .before .put-address .ensures)) (wrote-same (ap (field _) (clients (c .before .before .before .before .before .before .before .before .before .before .before .before .before .before .before .before .before .before .before .before .before .before .before .before .before .before .before .before .before .before .before .before .before))) (c .before .before .before .before .before .before .before .before .before .before .before .before .put-field3 .ensures)) (wrote-then (fits-rest (fits-rest (fits-rest (fits-rest (fits (c .before .before .before .before .before .before .before .before .before .before .before .before .before .before .before .before .before .before .before .before .before .before .before .before .before .before .before .before .before .before .before .before .before .before .before)) (c .before .before .before .before .before .before .before .before .before .before .before .before .before .before .before .before .before .before .before .before .before .before .before .before .before .before .before .before .put-field .ensures)) (c .before .before .before .before .before .before .before .before .before .before .before .before .before .before .before .before .before .before .before .before .before .before .put-field2 .ensures)) (c .before .before .before .before .before .before .before .before .before .before .before .before .before .before .before .before .before .put-address .ensures)) (wrote-same (ap (field _) (clients (c .before .before .before .before .before .before .before .before .before .before .before .before .before .before .before .before .before .before .before .before .before .before .before .before .before .before .before .before .before .before .before .before .before))) (c .before .before .before .before .before .before .before .before .before .before .before .before .put-field3 .ensures))) (wrote-same (ap (field _) (numbers (c .before .before .before .before .before .before .before .before .before .before .before .before .before .before .before .before .before .before .before .before .before .before .before .before .before .before .before .before .before .before .before .before))) (c .before .before .before .before .before .before .before .put-field4 .ensures)) (c .before .before .put-word .ensures))))); short = short (c .before .before .before .before .before .before .before .before .before .before .before .before .before .before .before .before .before .before .before .before .before .before .before .before .before .before .before .before .before .before .before .before .before .before .before) }
+unfolding printed
+returns c =
+    record {
+      wrote = wrote-same (same (c .before .before .before .before .before .before .before .before .before .before .before .before .before .before .before .before .before .before .before)) (wrote-then (fits (c .before .before .before .before .before .before .before .before .before .before .before .before .before .before .before .before .before .before .before)) (c .before .before .before .before .before .before .before .before .before .before .before .before .before .put-two .ensures) (wrote-then (fits-rest (fits (c .before .before .before .before .before .before .before .before .before .before .before .before .before .before .before .before .before .before .before)) (c .before .before .before .before .before .before .before .before .before .before .before .before .before .put-two .ensures)) (c .before .before .before .before .before .before .before .before .put-address .ensures) (c .before .before .put-last-two .ensures)));
+      short = short (c .before .before .before .before .before .before .before .before .before .before .before .before .before .before .before .before .before .before .before);
+    }
 
 pub put-rule-spec : {M : Type 1} → statement M
-put-rule-spec = tie.close (tie.spec (λ c κs. search needs) (λ c κs. search needs) (λ c. search needs) (λ c. search needs) put-field-requires (λ c. search needs) (λ c. search needs) put-field-requires-2 (λ c. search needs) put-address-requires (λ c. search needs) put-field-requires-3 (λ c. search needs) put-field-requires-4 (λ c. search needs) put-word-requires (λ c. search needs) returns)
+put-rule-spec = tie.close (tie.spec (λ c κs. search needs) (λ c κs. search needs) (λ c. search needs) (λ c. search needs) (λ c. search needs) (λ c. search needs) put-two-requires (λ c. search needs) put-address-requires (λ c. search needs) (λ c. search needs) put-last-two-requires (λ c. search needs) returns)

@@ -1,13 +1,16 @@
--- `listing::lines::put_sizes` writes `sizesLine`: its fields one behind the other.
+-- `listing::lines::put_sizes` writes `sizesLine`: its halves one behind the other.
 -- Trusts: nothing.
+use Prim.Native.Nat.{ℕ}
 use mathlib.Core.Path.{_≡_, sym, ap, _∙_}
+use mathlib.Core.List.{List, _++_}
 use lib.ListN.{length}
 use borrow.Author.Needs.{needs}
 use Rattle.table.specs.Table.{rulesOf, classifiersOf, channelsOf}
 use Rattle.table.proofs.Laws.{length-rulesOf, length-classifiersOf, length-channelsOf, length-mapped}
-use Rattle.listing.specs.Text.{field, sizesLine}
-use Rattle.listing.specs.Writing.{Fits, Short}
+use Rattle.listing.specs.Text.{ascii, sizesLine}
+use Rattle.listing.specs.Writing.{fields, Fits, Short}
 use Rattle.listing.proofs.Lengths.{sizesLine-short}
+use Rattle.listing.proofs.Halves.{sizesLine-halves}
 use Rattle.listing.proofs.Written.{fits-most, fits-same, fits-first, fits-rest, wrote-same, wrote-then}
 use Rattle.listing.proofs.lines.put_sizes.Statement.{statement}
 use Rattle.listing.proofs.lines.put_sizes.Tie as tie
@@ -22,36 +25,36 @@ classifiers c = c .limited2 .ensures ∙ sym (length-classifiersOf _ (search (ne
 channels : (c : tie.After-limited3) → c .limited3 .result ≡ length (channelsOf (c .before .before .before .before .args .table))
 channels c = c .limited3 .ensures ∙ sym (length-channelsOf _ (search needs))
 
--- the line is short enough, and so has room
-short : (c : tie.Start) → Short 44 (sizesLine (c .args .count) (c .args .table))
-short c = sizesLine-short _ _ (c .fits .count .fits)
+-- the line with the printed numbers
+printed : ℕ → ℕ → ℕ → ℕ → List ℕ
+printed count r cl ch = fields (ascii "dcd ") count (ascii " rules ") r ++ (fields (ascii " classifiers ") cl (ascii " channels ") ch ++ ascii "\n")
 
-fits : (c : tie.Start) → Fits (c .args .out .now) (c .args .at) (sizesLine (c .args .count) (c .args .table))
-fits c = fits-most 44 (c .pre) (short c)
+printed-same : (count : ℕ) {r r′ cl cl′ ch ch′ : ℕ} → r ≡ r′ → cl ≡ cl′ → ch ≡ ch′ → printed count r cl ch ≡ printed count r′ cl′ ch′
+printed-same count {r} {r′} {cl} {cl′} {ch} {ch′} p q s =
+    ap (λ (k : ℕ). printed count k cl ch) p ∙ ap (λ (k : ℕ). printed count r′ k ch) q ∙ ap (printed count r′ cl′) s
 
-put-field-requires : tie.Need-put-field-requires
-unfolding sizesLine
-put-field-requires c κs = fits-first _ (fits (c .before .before .before .before .before .before))
+same : (c : tie.After-limited3) → printed (c .before .before .before .before .args .count) (c .before .before .limited .result) (c .before .limited2 .result) (c .limited3 .result) ≡ sizesLine (c .before .before .before .before .args .count) (c .before .before .before .before .args .table)
+unfolding printed
+same c = printed-same _ (rules (c .before .before)) (classifiers (c .before)) (channels c) ∙ sym (sizesLine-halves _ _)
 
-put-field-requires-2 : tie.Need-put-field-requires-2
-unfolding sizesLine
-put-field-requires-2 c κs = fits-same (ap (field _) (sym (rules (c .before .before .before .before .before .before .before .before .before)))) (fits-first _ (fits-rest (fits (c .before .before .before .before .before .before .before .before .before .before .before)) (c .before .before .before .before .put-field .ensures)))
+-- it is short enough, and so has room
+short : (c : tie.After-limited3) → Short 44 (sizesLine (c .before .before .before .before .args .count) (c .before .before .before .before .args .table))
+short c = sizesLine-short _ _ (c .before .before .before .before .fits .count .fits)
 
-put-field-requires-3 : tie.Need-put-field-requires-3
-unfolding sizesLine
-put-field-requires-3 c κs = fits-same (ap (field _) (sym (classifiers (c .before .before .before .before .before .before .before .before .before .before .before .before .before)))) (fits-first _ (fits-rest (fits-rest (fits (c .before .before .before .before .before .before .before .before .before .before .before .before .before .before .before .before)) (c .before .before .before .before .before .before .before .before .before .put-field .ensures)) (wrote-same (ap (field _) (rules (c .before .before .before .before .before .before .before .before .before .before .before .before .before .before))) (c .before .before .before .before .put-field2 .ensures))))
+fits : (c : tie.After-limited3) → Fits (c .before .before .before .before .args .out .now) (c .before .before .before .before .args .at) (printed (c .before .before .before .before .args .count) (c .before .before .limited .result) (c .before .limited2 .result) (c .limited3 .result))
+fits c = fits-same (sym (same c)) (fits-most 44 (c .before .before .before .before .pre) (short c))
 
-put-field-requires-4 : tie.Need-put-field-requires-4
-unfolding sizesLine
-put-field-requires-4 c κs = fits-same (ap (field _) (sym (channels (c .before .before .before .before .before .before .before .before .before .before .before .before .before .before .before .before .before)))) (fits-first _ (fits-rest (fits-rest (fits-rest (fits (c .before .before .before .before .before .before .before .before .before .before .before .before .before .before .before .before .before .before .before .before .before)) (c .before .before .before .before .before .before .before .before .before .before .before .before .before .before .put-field .ensures)) (wrote-same (ap (field _) (rules (c .before .before .before .before .before .before .before .before .before .before .before .before .before .before .before .before .before .before .before))) (c .before .before .before .before .before .before .before .before .before .put-field2 .ensures))) (wrote-same (ap (field _) (classifiers (c .before .before .before .before .before .before .before .before .before .before .before .before .before .before .before .before .before .before))) (c .before .before .before .before .put-field3 .ensures))))
+put-two-requires : tie.Need-put-two-requires
+unfolding printed
+put-two-requires c κs = fits-first _ (fits (c .before .before .before))
 
-put-word-requires : tie.Need-put-word-requires
-unfolding sizesLine
-put-word-requires c κs = fits-rest (fits-rest (fits-rest (fits-rest (fits (c .before .before .before .before .before .before .before .before .before .before .before .before .before .before .before .before .before .before .before .before .before .before .before .before .before .before)) (c .before .before .before .before .before .before .before .before .before .before .before .before .before .before .before .before .before .before .before .put-field .ensures)) (wrote-same (ap (field _) (rules (c .before .before .before .before .before .before .before .before .before .before .before .before .before .before .before .before .before .before .before .before .before .before .before .before))) (c .before .before .before .before .before .before .before .before .before .before .before .before .before .before .put-field2 .ensures))) (wrote-same (ap (field _) (classifiers (c .before .before .before .before .before .before .before .before .before .before .before .before .before .before .before .before .before .before .before .before .before .before .before))) (c .before .before .before .before .before .before .before .before .before .put-field3 .ensures))) (wrote-same (ap (field _) (channels (c .before .before .before .before .before .before .before .before .before .before .before .before .before .before .before .before .before .before .before .before .before .before))) (c .before .before .before .before .put-field4 .ensures))
+put-last-two-requires : tie.Need-put-last-two-requires
+unfolding printed
+put-last-two-requires c κs = fits-rest (fits (c .before .before .before .before .before .before .before .before .before)) (c .before .before .before .before .before .put-two .ensures)
 
 returns : tie.Need-returns
-unfolding sizesLine
-returns c = record { wrote = wrote-then (fits (c .before .before .before .before .before .before .before .before .before .before .before .before .before .before .before .before .before .before .before .before .before .before .before .before .before .before .before .before .before)) (c .before .before .before .before .before .before .before .before .before .before .before .before .before .before .before .before .before .before .before .before .before .before .put-field .ensures) (wrote-then (fits-rest (fits (c .before .before .before .before .before .before .before .before .before .before .before .before .before .before .before .before .before .before .before .before .before .before .before .before .before .before .before .before .before)) (c .before .before .before .before .before .before .before .before .before .before .before .before .before .before .before .before .before .before .before .before .before .before .put-field .ensures)) (wrote-same (ap (field _) (rules (c .before .before .before .before .before .before .before .before .before .before .before .before .before .before .before .before .before .before .before .before .before .before .before .before .before .before .before))) (c .before .before .before .before .before .before .before .before .before .before .before .before .before .before .before .before .before .put-field2 .ensures)) (wrote-then (fits-rest (fits-rest (fits (c .before .before .before .before .before .before .before .before .before .before .before .before .before .before .before .before .before .before .before .before .before .before .before .before .before .before .before .before .before)) (c .before .before .before .before .before .before .before .before .before .before .before .before .before .before .before .before .before .before .before .before .before .before .put-field .ensures)) (wrote-same (ap (field _) (rules (c .before .before .before .before .before .before .before .before .before .before .before .before .before .before .before .before .before .before .before .before .before .before .before .before .before .before .before))) (c .before .before .before .before .before .before .before .before .before .before .before .before .before .before .before .before .before .put-field2 .ensures))) (wrote-same (ap (field _) (classifiers (c .before .before .before .before .before .before .before .before .before .before .before .before .before .before .before .before .before .before .before .before .before .before .before .before .before .before))) (c .before .before .before .before .before .before .before .before .before .before .before .before .put-field3 .ensures)) (wrote-then (fits-rest (fits-rest (fits-rest (fits (c .before .before .before .before .before .before .before .before .before .before .before .before .before .before .before .before .before .before .before .before .before .before .before .before .before .before .before .before .before)) (c .before .before .before .before .before .before .before .before .before .before .before .before .before .before .before .before .before .before .before .before .before .before .put-field .ensures)) (wrote-same (ap (field _) (rules (c .before .before .before .before .before .before .before .before .before .before .before .before .before .before .before .before .before .before .before .before .before .before .before .before .before .before .before))) (c .before .before .before .before .before .before .before .before .before .before .before .before .before .before .before .before .before .put-field2 .ensures))) (wrote-same (ap (field _) (classifiers (c .before .before .before .before .before .before .before .before .before .before .before .before .before .before .before .before .before .before .before .before .before .before .before .before .before .before))) (c .before .before .before .before .before .before .before .before .before .before .before .before .put-field3 .ensures))) (wrote-same (ap (field _) (channels (c .before .before .before .before .before .before .before .before .before .before .before .before .before .before .before .before .before .before .before .before .before .before .before .before .before))) (c .before .before .before .before .before .before .before .put-field4 .ensures)) (c .before .before .put-word .ensures)))); short = short (c .before .before .before .before .before .before .before .before .before .before .before .before .before .before .before .before .before .before .before .before .before .before .before .before .before .before .before .before .before) }
+unfolding printed
+returns c = record { wrote = wrote-same (same (c .before .before .before .before .before .before .before .before .before .before .before .before)) (wrote-then (fits (c .before .before .before .before .before .before .before .before .before .before .before .before)) (c .before .before .before .before .before .before .before .before .put-two .ensures) (c .before .before .put-last-two .ensures)); short = short (c .before .before .before .before .before .before .before .before .before .before .before .before) }
 
 pub put-sizes-spec : {M : Type 1} → statement M
-put-sizes-spec = tie.close (tie.spec (λ c κs. search needs) (λ c κs. search needs) (λ c κs. search needs) (λ c. search needs) put-field-requires (λ c. search needs) put-field-requires-2 (λ c. search needs) put-field-requires-3 (λ c. search needs) put-field-requires-4 (λ c. search needs) put-word-requires (λ c. search needs) returns)
+put-sizes-spec = tie.close (tie.spec (λ c κs. search needs) (λ c κs. search needs) (λ c κs. search needs) (λ c. search needs) (λ c. search needs) put-two-requires (λ c. search needs) (λ c. search needs) put-last-two-requires (λ c. search needs) returns)
