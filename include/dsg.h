@@ -295,7 +295,7 @@ struct dsg_verdict dsg_judge(const struct dsg_table *table, uint8_t kind, uint64
 
 /* The rule for a client and its classifiers, taken out of the table once, to judge many frames with. Anew after each
  * accepted table and wherever the UCID changes. Lent: the table. Nothing is written.
- * Definition: prepared/specs/Prepared preparedTunnel. */
+ * Definition: preparing/specs/Preparing preparedTunnel. */
 struct dsg_tunnel dsg_prepare(const struct dsg_table *table, uint8_t kind, uint64_t value, uint8_t ucid_known,
                               uint8_t ucid);
 

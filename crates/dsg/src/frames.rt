@@ -6,7 +6,8 @@ ghost use mathlib.Core.Path.{_≡_};
 ghost use Prim.Native.Nat.{_-_};
 ghost use lib.ListN.{length};
 ghost use Rattle.tunnel.specs.Judge.{verdictOf};
-ghost use Rattle.prepared.specs.Prepared.{preparedTunnel, lentTunnel, preparedVerdict};
+ghost use Rattle.prepared.specs.Prepared.{lentTunnel, preparedVerdict};
+ghost use Rattle.preparing.specs.Preparing.{preparedTunnel};
 ghost use Rattle.dsg.specs.Frames.{clientOf, ucidOf, choiceAs, choiceFor, verdictAs, verdictFor};
 use choice::Ucid;
 use prepared::Tunnel;
@@ -143,7 +144,7 @@ fn prepare_value(table: Table, kind: u8, value: u64, known: u8, ucid: u8) -> Tun
 {
     let client = Client { kind, value };
     let upstream = ucid_from(known, ucid);
-    prepared::prepare_tunnel(table, client, upstream)
+    preparing::prepare_tunnel(table, client, upstream)
 }
 
 // The tunnel of a client, from a table that the host lends.
