@@ -23,7 +23,7 @@
  *
  * Memory that a board needs: the records below and two buffers of DSG_BUFFER_BYTES, some 55,000 bytes. Stack, as
  * examples/stack.c measures it: dsg_receive 93,000 bytes, dsg_read 66,000, dsg_list_body 141,000, dsg_empty_table 29,000,
- * dsg_list_table 21,000, dsg_judge 14,000, dsg_prepare 10,000, dsg_choose 7,000; what runs for each frame and event
+ * dsg_list_table 21,000, dsg_judge 26,000, dsg_prepare 23,000, dsg_choose 13,000; what runs for each frame and event
  * (dsg_judge_prepared, dsg_event, dsg_transmits, dsg_forwards) and dsg_collect under 1,000. Of the C library only
  * memcpy, memset and the like are called.
  */
@@ -298,7 +298,7 @@ struct dsg_verdict dsg_judge(const struct dsg_table *table, uint8_t kind, uint64
 
 /* The rule for a client and its classifiers, taken out of the table once, to judge many frames with. Anew after each
  * accepted table and wherever the UCID changes. Lent: the table. Nothing is written.
- * Definition: prepared/specs/Prepared preparedTunnel. */
+ * Definition: preparing/specs/Preparing preparedTunnel. */
 struct dsg_tunnel dsg_prepare(const struct dsg_table *table, uint8_t kind, uint64_t value, uint8_t ucid_known,
                               uint8_t ucid);
 

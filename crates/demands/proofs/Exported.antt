@@ -12,7 +12,8 @@ use denote.Ref.{now}
 use Rattle.demands.proofs.Contract.{Gives, WalkedGives, fixed, answer}
 use Rattle.table.specs.Table.{emptyTable}
 use Rattle.collector.specs.Step.{emptyCollection}
-use Rattle.prepared.specs.Prepared.{preparedTunnel, preparedVerdict}
+use Rattle.prepared.specs.Prepared.{preparedVerdict}
+use Rattle.preparing.specs.Preparing.{preparedTunnel}
 use Rattle.modem.specs.Record.{transmits, forwards, emptyModem}
 use Rattle.dsg_pieces.specs.Bodies.{CollectAfter, collectAfter, ReceiveAfter, receiveAfter}
 use Rattle.dsg_tables.specs.declared.ReadStepped.{ReadStepped}

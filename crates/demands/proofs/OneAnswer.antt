@@ -23,7 +23,7 @@ use Rattle.choice.proofs.rule_at.Reads as choice_rule_at
 use Rattle.choice.proofs.choose_rule.Reads as choose_rule
 use Rattle.tunnel.proofs.judge_frame.Reads as judge_frame
 use Rattle.tunnel.proofs.payload.Reads as payload
-use Rattle.prepared.proofs.prepare_tunnel.Reads as prepare_tunnel
+use Rattle.preparing.proofs.prepare_tunnel.Reads as prepare_tunnel
 use Rattle.prepared.proofs.judge_prepared.Reads as judge_prepared
 use Rattle.prepared.proofs.judge_lent.Reads as judge_lent
 use Rattle.modem.proofs.empty_modem.Reads as empty_modem
@@ -77,7 +77,7 @@ judge_frame-one κs = only (demand2.judge_frame-gives κs)
 pub payload-one : (κs : Lfts 1) → One (λ x s. now x) (payload.Post κs)
 payload-one κs = only (demand2.payload-gives κs)
 
--- ---- prepared
+-- ---- preparing, prepared
 
 pub prepare_tunnel-one : (κs : Lfts 0) → One answer (prepare_tunnel.Post κs)
 prepare_tunnel-one κs = only (demand2.prepare_tunnel-gives κs)

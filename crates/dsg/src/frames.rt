@@ -4,7 +4,8 @@
 // counts where its mark is not 0. The payload is told by its place in the frame: it is not copied.
 ghost use mathlib.Core.Path.{_≡_};
 ghost use lib.ListN.{length};
-ghost use Rattle.prepared.specs.Prepared.{preparedTunnel, preparedVerdict};
+ghost use Rattle.prepared.specs.Prepared.{preparedVerdict};
+ghost use Rattle.preparing.specs.Preparing.{preparedTunnel};
 ghost use Rattle.dsg_frames.specs.Frames.{clientOf, ucidOf, choiceFor, verdictAs, verdictFor};
 use dsg_frames::Choice;
 use dsg_frames::Verdict;

@@ -5,7 +5,8 @@
 ghost use mathlib.Core.Path.{_≡_};
 ghost use Prim.Native.Nat.{_-_};
 ghost use lib.ListN.{length};
-ghost use Rattle.prepared.specs.Prepared.{preparedTunnel, lentTunnel, preparedVerdict};
+ghost use Rattle.prepared.specs.Prepared.{lentTunnel, preparedVerdict};
+ghost use Rattle.preparing.specs.Preparing.{preparedTunnel};
 ghost use Rattle.dsg_frames.specs.Frames.{clientOf, ucidOf, choiceAs, choiceFor, verdictAs, verdictFor};
 use choice::Ucid;
 use prepared::Tunnel;
@@ -119,7 +120,7 @@ pub fn prepare_value(table: Table, kind: u8, value: u64, known: u8, ucid: u8) ->
 {
     let client = Client { kind, value };
     let upstream = ucid_from(known, ucid);
-    prepared::prepare_tunnel(table, client, upstream)
+    preparing::prepare_tunnel(table, client, upstream)
 }
 
 // The verdict on a frame, by the parts of a prepared tunnel.

@@ -1,20 +1,18 @@
--- Laws of `listFrom` and `padded` (specs/Prepared.antt).
+-- Laws of `listFrom` (specs/Prepared.antt).
 --
 --   firstFrom-found, firstFrom-passed, firstFrom-end   `firstPlace` of the n elements, for a loop at place i
 --   length-listFrom   as many elements as were asked for
---   padded-set        one more number behind the used places
 -- Trusts: nothing.
 use mathlib.Core.Path.{_≡_, refl, sym, ap, _∙_}
 use mathlib.Core.Bool.{Bool, true, false, cond}
-use mathlib.Core.List.{List, [], _∷_, _++_, append-assoc}
+use mathlib.Core.List.{[], _∷_}
 use Prim.Native.Nat.{ℕ, zero, suc, _+_, _-_, _≤_, _<_}
 use native.Mathlib.Nat.{add-zero}
 use native.Mathlib.Numerals.{add-one}
 use native.Mathlib.Omega.{arith}
-use lib.ListN.{length, getD, set, replicate, length-append}
-use lib.Seq.{set-append-seam, append-snoc}
+use lib.ListN.{length}
 use Rattle.choice.specs.Best.{firstPlace}
-use Rattle.prepared.specs.Prepared.{listFrom, padded}
+use Rattle.prepared.specs.Prepared.{listFrom}
 
 module _ {A : Type 0} (at : ℕ → A) where
   pub length-listFrom : (i n : ℕ) → length (listFrom at i n) ≡ n
@@ -40,9 +38,3 @@ module _ {A : Type 0} (at : ℕ → A) where
   firstFrom-end ok n i h =
       let e : n - i ≡ 0 = omega arith in
       rw e (add-zero i)
-
-pub padded-set : (xs : List ℕ) (k v : ℕ) → length xs ≡ k → k < 32 → set (padded xs) k v ≡ padded (xs ++ (v ∷ []))
-padded-set xs k v e h =
-    let m : 32 - length xs ≡ suc (32 - (k + 1)) = omega arith in
-    let l : length (xs ++ (v ∷ [])) ≡ k + 1 = length-append xs (v ∷ []) ∙ ap (λ (j : ℕ). j + 1) e in
-    rw (m, l, append-snoc xs v (replicate (32 - (k + 1)) 0), ← e) (set-append-seam xs 0 (replicate (32 - (length xs + 1)) 0) v)

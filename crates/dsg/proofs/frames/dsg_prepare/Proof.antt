@@ -13,7 +13,7 @@ use Rattle.dsg.proofs.Walk.{yes}
 use denote.Struct.Laws as LL
 use Rattle.dsg_frames.specs.Frames.{clientOf}
 use Rattle.dsg_frames.specs.Frames.{ucidOf}
-use Rattle.prepared.specs.Prepared.{preparedTunnel}
+use Rattle.preparing.specs.Preparing.{preparedTunnel}
 use Rattle.table.specs.declared.Table.{Table}
 use Rattle.table.proofs.Table as D0
 use Rattle.table.proofs.Table.Laws as D0′
