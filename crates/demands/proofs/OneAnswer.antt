@@ -13,7 +13,7 @@ use Rattle.demands.proofs.Demand2 as demand2
 use Rattle.listing.specs.Listing.{Listing, written}
 use Rattle.collector.specs.Answers.{said}
 use Rattle.collector.specs.Step.{After}
-use Rattle.collector.specs.Lent.{LentAfter}
+use Rattle.lending.specs.Lent.{LentAfter}
 use Rattle.modem.specs.declared.Stepped.{Stepped}
 use Rattle.wire.proofs.number2.Reads as number2
 use Rattle.wire.proofs.number4.Reads as number4
@@ -36,7 +36,7 @@ use Rattle.contents.proofs.configuration_at.Reads as configuration_at
 use Rattle.reader.proofs.read_table.Reads as read_table
 use Rattle.collector.proofs.empty_collection.Reads as empty_collection
 use Rattle.collector.proofs.collect.Reads as collect
-use Rattle.collector.proofs.message.Reads as message
+use Rattle.lending.proofs.message.Reads as message
 use Rattle.choice.proofs.is_better.Reads as is_better
 use Rattle.choice.proofs.choose_rule.Reads as choose_rule
 use Rattle.tunnel.proofs.judge_frame.Reads as judge_frame

@@ -1,4 +1,4 @@
--- `collector::message` gives `lentOf`: the body's piece, the front of the join buffer, or nothing.
+-- `lending::message` gives `lentOf`: the body's piece, the front of the join buffer, or nothing.
 -- Trusts: nothing.
 use Prim.Native.Nat.{ℕ}
 use mathlib.Core.Path.{_≡_, refl, sym, _∙_}
@@ -9,12 +9,12 @@ use types.Run.{OneOf}
 use denote.Enum.Declared.{tagOf}
 use borrow.Author.Needs.{needs}
 use borrow.Author.Tests.{eq-eqb, ne-eqb}
 use Rattle.collector.specs.Answers.{said, lentOf}
 use Rattle.collector.specs.declared.Answer.{Answer}
 use Rattle.collector.specs.declared.Answer.the-variants.{Refused, Repeat, Waiting, Complete}
 use Rattle.collector.proofs.Answer.{the-type}
-use Rattle.collector.proofs.message.Statement.{statement}
-use Rattle.collector.proofs.message.Tie as tie
+use Rattle.lending.proofs.message.Statement.{statement}
+use Rattle.lending.proofs.message.Tie as tie
 
 -- a variant before Complete lends nothing
 nothing : (a : Answer) (number : ℕ) (body join : List ℕ) → OneOf (0 ∷ 1 ∷ 2 ∷ []) (tagOf the-type a) → [] ≡ lentOf (said a) number body join

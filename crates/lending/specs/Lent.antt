@@ -3,14 +3,14 @@
 --   lentStep r slots join body      what `collectStep` gives, with the message as a part of the body (own) or of the join buffer (joined), the
 --                                   other empty, both where none is complete; the rest of the join buffer stands behind joined
 --
--- Tested by: as specs/Step.antt.
+-- Tested by: as specs/Step.antt of collector.
 -- Trusts: nothing.
 use Prim.Native.Nat.{ℕ}
 use mathlib.Core.List.{List}
 use lib.ListN.{length, drop}
 use Rattle.collector.specs.Answers.{Said, ownOf, joinedOf}
 use Rattle.collector.specs.Step.{collectStep}
 use Rattle.collector.specs.declared.Collection.{Collection}
 
 pub record LentAfter : Type 0 where
   pub answer : Said

@@ -1,4 +1,4 @@
--- `collector::collect_lent` gives `lentStep`: a walk of its MIR by hand. `collect`, which does the work, is called with the
+-- `lending::collect_lent` gives `lentStep`: a walk of its MIR by hand. `collect`, which does the work, is called with the
 -- record, the slot buffer, which is passed on for good (`gave-slice`), the body, and the join buffer, which is lent again for a lifetime of the call and comes
 -- back (Again.antt). The join buffer is then spent in `share`; the outcome, which is Copy, is handed to the three functions that cut the parts.
 -- Trusts: nothing.
@@ -42,43 +42,43 @@ use denote.Triple.Walked.{says, Stays, stay-dropped, gave-slice, walkOf, goes-dr
 use denote.Exit.{yes, no}
 use denote.Signature.{Slot, plain, namedLft, shrSliceOf, mutSliceOf}
 use denote.Struct.Laws as LL
 use Rattle.collector.specs.Answers.{said, ownOf, joinedOf}
 use Rattle.collector.specs.Step.{After, collectStep}
 use Rattle.collector.specs.declared.Collection.{Collection}
 use Rattle.collector.specs.declared.Outcome.{Outcome}
-use Rattle.collector.specs.declared.Lent.{Lent}
-use Rattle.collector.proofs.LawsStep.{step-lent}
+use Rattle.lending.specs.declared.Lent.{Lent}
+use Rattle.lending.proofs.Laws.{step-lent}
 use Rattle.collector.proofs.Collection as R
 use Rattle.collector.proofs.Collection.Laws as R′
 use Rattle.collector.proofs.Outcome as O
 use Rattle.collector.proofs.Outcome.Laws as O′
-use Rattle.collector.proofs.Lent as T
-use Rattle.collector.proofs.Lent.Laws as T′
-use Rattle.collector.proofs.Again.{LentAgain, lends-again, comes-back}
+use Rattle.lending.proofs.Lent as T
+use Rattle.lending.proofs.Lent.Laws as T′
+use Rattle.lending.proofs.Again.{LentAgain, lends-again, comes-back}
 use Rattle.collector.proofs.collect as work
 use Rattle.collector.proofs.collect.Symbol as work-def
 use Rattle.collector.proofs.collect.Symbol.{name as #collector·collect}
 use Rattle.collector.proofs.collect.Met as work-thm
-use Rattle.collector.proofs.own_part as own
-use Rattle.collector.proofs.own_part.Symbol as own-def
-use Rattle.collector.proofs.own_part.Symbol.{name as #collector·own-part}
-use Rattle.collector.proofs.own_part.Met as own-thm
-use Rattle.collector.proofs.joined_part as joined
-use Rattle.collector.proofs.joined_part.Symbol as joined-def
-use Rattle.collector.proofs.joined_part.Symbol.{name as #collector·joined-part}
-use Rattle.collector.proofs.joined_part.Met as joined-thm
-use Rattle.collector.proofs.rest_part as rest
-use Rattle.collector.proofs.rest_part.Symbol as rest-def
-use Rattle.collector.proofs.rest_part.Symbol.{name as #collector·rest-part}
-use Rattle.collector.proofs.rest_part.Met as rest-thm
-use Rattle.collector.proofs.share as share
-use Rattle.collector.proofs.share.Symbol as share-def
-use Rattle.collector.proofs.share.Symbol.{name as #collector·share}
-use Rattle.collector.proofs.share.Met as share-thm
-use Rattle.collector.proofs.collect_lent.Key.{name as #collector·collect-lent}
-use Rattle.collector.proofs.collect_lent as top
-use Rattle.collector.proofs.collect_lent.Statement as stated
-use Rattle.collector.proofs.collect_lent.Code as code
+use Rattle.lending.proofs.own_part as own
+use Rattle.lending.proofs.own_part.Symbol as own-def
+use Rattle.lending.proofs.own_part.Symbol.{name as #lending·own-part}
+use Rattle.lending.proofs.own_part.Met as own-thm
+use Rattle.lending.proofs.joined_part as joined
+use Rattle.lending.proofs.joined_part.Symbol as joined-def
+use Rattle.lending.proofs.joined_part.Symbol.{name as #lending·joined-part}
+use Rattle.lending.proofs.joined_part.Met as joined-thm
+use Rattle.lending.proofs.rest_part as rest
+use Rattle.lending.proofs.rest_part.Symbol as rest-def
+use Rattle.lending.proofs.rest_part.Symbol.{name as #lending·rest-part}
+use Rattle.lending.proofs.rest_part.Met as rest-thm
+use Rattle.lending.proofs.share as share
+use Rattle.lending.proofs.share.Symbol as share-def
+use Rattle.lending.proofs.share.Symbol.{name as #lending·share}
+use Rattle.lending.proofs.share.Met as share-thm
+use Rattle.lending.proofs.collect_lent.Key.{name as #lending·collect-lent}
+use Rattle.lending.proofs.collect_lent as top
+use Rattle.lending.proofs.collect_lent.Statement as stated
+use Rattle.lending.proofs.collect_lent.Code as code
 
 abbrev U8 : Slot 3
 U8 = plain (λ _. u8)
@@ -217,7 +217,7 @@ module _ {M : Type 1} (𝓤 : URA M) (H : Heap 𝓤) (A : Atoms 𝓤) (W : Given
       nothing ! $ move ! (4 ∷ 0 ∷ []) $ fjoin ! $ move ! (3 ∷ 0 ∷ []) $ fjoin ! $ move ! (2 ∷ 0 ∷ []) $ fjoin ! $ move ! (1 ∷ 0 ∷ []) $ fjoin ! $
       by ! (own-shut 𝓤 H A W (T.the-type α β) (T′.the-laws α β) (r, (u, (x₁, (y, tt)))))
 
-  module _ (C : Calls 𝓤 H) (Λ : Loops 𝓤 H) (fm : FmC 𝓤 H (W .laws) C) (known-work : Triple 𝓤 (C #collector·collect) (Work 𝓤 H A mem run)) (known-own : Triple 𝓤 (C #collector·own-part) (Own 𝓤 H A mem run)) (known-joined : Triple 𝓤 (C #collector·joined-part) (Joined 𝓤 H A mem run)) (known-rest : Triple 𝓤 (C #collector·rest-part) (Rest 𝓤 H A mem run)) (known-share : Triple 𝓤 (C #collector·share) (Share′ 𝓤 H A mem run)) where
+  module _ (C : Calls 𝓤 H) (Λ : Loops 𝓤 H) (fm : FmC 𝓤 H (W .laws) C) (known-work : Triple 𝓤 (C #collector·collect) (Work 𝓤 H A mem run)) (known-own : Triple 𝓤 (C #lending·own-part) (Own 𝓤 H A mem run)) (known-joined : Triple 𝓤 (C #lending·joined-part) (Joined 𝓤 H A mem run)) (known-rest : Triple 𝓤 (C #lending·rest-part) (Rest 𝓤 H A mem run)) (known-share : Triple 𝓤 (C #lending·share) (Share′ 𝓤 H A mem run)) where
     walk : Is R.the-row h (m ∷ []) → Room u8 (length (now xs)) → Room u8 (length ys) → Is (ShrSlice (named 2) κ₂ u8) d (v ∷ []) → ent 𝓤 (onEntry 𝓤 H A top.signature κs (q₀, (q, (q₂, tt))) (a γ) at) (WpFn 𝓤 H C Λ code.function (m ∷ v₀ ∷ s ∷ v ∷ []) Post)
     walk g room₀ room p =
         qed W ((‵ (flft κ₀ q₀) ⊛ ‵ (flft κ q) ⊛ ‵ (flft κ₂ q₂) ⊛ ‵ ftrue) ∷ ‵ (owns (R.the-row ∷ MutSlice (named 0) κ₀ u8 ∷ MutSlice (named 1) κ u8 ∷ ShrSlice (named 2) κ₂ u8 ∷ []) (a γ) at) ∷ []) ∵ enter ! C Λ code.function (m ∷ v₀ ∷ s ∷ v ∷ []) _ $
@@ -302,13 +302,13 @@ module _ {M : Type 1} (𝓤 : URA M) (H : Heap 𝓤) (A : Atoms 𝓤) (W : Given
         keep ! (6 ∷ 1 ∷ 5 ∷ 7 ∷ 3 ∷ 4 ∷ 2 ∷ 0 ∷ []) $ by ! (exits r u x₁ y (zs .1 .0) (zs .1 .1 .0) e e₂ (e₃ ∙ ap (joinedOf (said (r .answer)) (r .held .number)) e′) (e₄ ∙ ap (λ (l′ : List ℕ). listn.drop (length (joinedOf (said (r .answer)) (r .held .number) l′)) l′) e′) k))))))))))))))))))))))))))))))))))))))))))
 
 module _ {M : Type 1} (𝓤 : URA M) (H : Heap 𝓤) (A : Atoms 𝓤) (W : Given 𝓤 H A) (mem : Memory → SProp 𝓤) (run : Routine → Fun 𝓤) where
-  lent-walks : (C : Calls 𝓤 H) (Λ : Loops 𝓤 H) → FmC 𝓤 H (W .laws) C → Triple 𝓤 (C #collector·collect) (Work 𝓤 H A mem run) → Triple 𝓤 (C #collector·own-part) (Own 𝓤 H A mem run) → Triple 𝓤 (C #collector·joined-part) (Joined 𝓤 H A mem run) → Triple 𝓤 (C #collector·rest-part) (Rest 𝓤 H A mem run) → Triple 𝓤 (C #collector·share) (Share′ 𝓤 H A mem run) → Walks 𝓤 H A top.ended stayed (WpFn 𝓤 H C Λ code.function) (top.clauses 𝓤 H A mem run)
+  lent-walks : (C : Calls 𝓤 H) (Λ : Loops 𝓤 H) → FmC 𝓤 H (W .laws) C → Triple 𝓤 (C #collector·collect) (Work 𝓤 H A mem run) → Triple 𝓤 (C #lending·own-part) (Own 𝓤 H A mem run) → Triple 𝓤 (C #lending·joined-part) (Joined 𝓤 H A mem run) → Triple 𝓤 (C #lending·rest-part) (Rest 𝓤 H A mem run) → Triple 𝓤 (C #lending·share) (Share′ 𝓤 H A mem run) → Walks 𝓤 H A top.ended stayed (WpFn 𝓤 H C Λ code.function) (top.clauses 𝓤 H A mem run)
   lent-walks C Λ fm known-work known-own known-joined known-rest known-share = walked 𝓤 H A top.ended stayed (top.clauses 𝓤 H A mem run) (WpFn 𝓤 H C Λ code.function)
       (λ κs. (LL.vals R.the-type R′.the-laws, (slice-vals, (slice-vals, (slice-vals, tt))))) (λ κs. (LL.tells R.the-type R′.the-laws, (mut-slice-tells (named 0) (κs .0) u8, (mut-slice-tells (named 1) (κs .1 .0) u8, (shr-slice-tells (named 2) (κs .1 .1 .0) u8, tt)))))
       (λ κs qs bounds a g are. via 𝓤 _ (fst∗ 𝓤 _ (emp 𝓤))
       (walk 𝓤 H A W mem run (κs .0) (κs .1 .0) (κs .1 .1 .0) (qs .0) (qs .1 .0) (qs .1 .1 .0) (a .0) (a .1 .0) (a .1 .1 .0 .ptr .0) (a .1 .1 .0 .ptr .1) (a .1 .1 .0 .name) (a .1 .1 .0 .now) (a .1 .1 .1 .0) C Λ fm known-work known-own known-joined known-rest known-share (are .0) (are .1 .0 .0 .1) (are .1 .1 .0 .0 .1) (are .1 .1 .1 .0)))
 
-lent-meets : {M : Type 1} (𝓤 : URA M) (H : Heap 𝓤) (A : Atoms 𝓤) → Given 𝓤 H A → (mem : Memory → SProp 𝓤) (run : Routine → Fun 𝓤) (𝓣 : Tables 𝓤 H) → Triple 𝓤 (𝓣 .C #collector·collect) (Work 𝓤 H A mem run) → Triple 𝓤 (𝓣 .C #collector·own-part) (Own 𝓤 H A mem run) → Triple 𝓤 (𝓣 .C #collector·joined-part) (Joined 𝓤 H A mem run) → Triple 𝓤 (𝓣 .C #collector·rest-part) (Rest 𝓤 H A mem run) → Triple 𝓤 (𝓣 .C #collector·share) (Share′ 𝓤 H A mem run)
+lent-meets : {M : Type 1} (𝓤 : URA M) (H : Heap 𝓤) (A : Atoms 𝓤) → Given 𝓤 H A → (mem : Memory → SProp 𝓤) (run : Routine → Fun 𝓤) (𝓣 : Tables 𝓤 H) → Triple 𝓤 (𝓣 .C #collector·collect) (Work 𝓤 H A mem run) → Triple 𝓤 (𝓣 .C #lending·own-part) (Own 𝓤 H A mem run) → Triple 𝓤 (𝓣 .C #lending·joined-part) (Joined 𝓤 H A mem run) → Triple 𝓤 (𝓣 .C #lending·rest-part) (Rest 𝓤 H A mem run) → Triple 𝓤 (𝓣 .C #lending·share) (Share′ 𝓤 H A mem run)
     → Meets 𝓤 H A top.signature (WpFn 𝓤 H (𝓣 .C) (𝓣 .Λ) code.function) (top.spec 𝓤 H A mem run)
 lent-meets 𝓤 H A W mem run 𝓣 known-work known-own known-joined known-rest known-share =
     walk-meets 𝓤 H A top.ended stayed W (goes-dropped 𝓤 H A W 3 (plain (λ _. R.the-row)) yes (λ κs x f. refl), (goes-gave-slice 𝓤 H A W 3 0 tt U8, (goes-spent-slice 𝓤 H A W 3 (1 ∷ []) tt U8, (goes-dropped 𝓤 H A W 3 (shrSliceOf (2 ∷ []) tt U8) yes (λ κs x f. refl), tt)))) (top.clauses 𝓤 H A mem run)
@@ -318,10 +318,10 @@ pub collect-lent-spec : {M : Type 1} → stated.statement M
 unfolding code.routine tablesOf
 collect-lent-spec 𝓤 H 𝓜 𝓖 𝓡 =
     entered 𝓤 H (tripleOf 𝓤 H (𝓖 .A) top.signature (top.spec 𝓤 H (𝓖 .A) (𝓜 .mem) (𝓡 .run)))
-    (tables 𝓤 H 𝓜 𝓡 code.env .C) (tables 𝓤 H 𝓜 𝓡 code.env .Λ) #collector·collect-lent code.function (code.unfolded 𝓤 H 𝓜 𝓡)
+    (tables 𝓤 H 𝓜 𝓡 code.env .C) (tables 𝓤 H 𝓜 𝓡 code.env .Λ) #lending·collect-lent code.function (code.unfolded 𝓤 H 𝓜 𝓡)
     (lent-meets 𝓤 H (𝓖 .A) (givenOf 𝓤 H 𝓜 𝓖) (𝓜 .mem) (𝓡 .run) (tablesOf 𝓤 H 𝓜 (tables 𝓤 H 𝓜 𝓡 code.env))
     (cited 𝓤 H (Work 𝓤 H (𝓖 .A) (𝓜 .mem) (𝓡 .run)) 𝓜 𝓡 code.env #collector·collect work-def.routine code.calls-collector·collect (work-thm.met 𝓤 H 𝓜 𝓖 𝓡))
-    (cited 𝓤 H (Own 𝓤 H (𝓖 .A) (𝓜 .mem) (𝓡 .run)) 𝓜 𝓡 code.env #collector·own-part own-def.routine code.calls-collector·own-part (own-thm.met 𝓤 H 𝓜 𝓖 𝓡))
-    (cited 𝓤 H (Joined 𝓤 H (𝓖 .A) (𝓜 .mem) (𝓡 .run)) 𝓜 𝓡 code.env #collector·joined-part joined-def.routine code.calls-collector·joined-part (joined-thm.met 𝓤 H 𝓜 𝓖 𝓡))
-    (cited 𝓤 H (Rest 𝓤 H (𝓖 .A) (𝓜 .mem) (𝓡 .run)) 𝓜 𝓡 code.env #collector·rest-part rest-def.routine code.calls-collector·rest-part (rest-thm.met 𝓤 H 𝓜 𝓖 𝓡))
-    (cited 𝓤 H (Share′ 𝓤 H (𝓖 .A) (𝓜 .mem) (𝓡 .run)) 𝓜 𝓡 code.env #collector·share share-def.routine code.calls-collector·share (share-thm.met 𝓤 H 𝓜 𝓖 𝓡)))
+    (cited 𝓤 H (Own 𝓤 H (𝓖 .A) (𝓜 .mem) (𝓡 .run)) 𝓜 𝓡 code.env #lending·own-part own-def.routine code.calls-lending·own-part (own-thm.met 𝓤 H 𝓜 𝓖 𝓡))
+    (cited 𝓤 H (Joined 𝓤 H (𝓖 .A) (𝓜 .mem) (𝓡 .run)) 𝓜 𝓡 code.env #lending·joined-part joined-def.routine code.calls-lending·joined-part (joined-thm.met 𝓤 H 𝓜 𝓖 𝓡))
+    (cited 𝓤 H (Rest 𝓤 H (𝓖 .A) (𝓜 .mem) (𝓡 .run)) 𝓜 𝓡 code.env #lending·rest-part rest-def.routine code.calls-lending·rest-part (rest-thm.met 𝓤 H 𝓜 𝓖 𝓡))
+    (cited 𝓤 H (Share′ 𝓤 H (𝓖 .A) (𝓜 .mem) (𝓡 .run)) 𝓜 𝓡 code.env #lending·share share-def.routine code.calls-lending·share (share-thm.met 𝓤 H 𝓜 𝓖 𝓡)))

@@ -1,4 +1,4 @@
--- `collector::own_part` gives `ownOf`: the message of the body alone where the number is 1, else nothing.
+-- `lending::own_part` gives `ownOf`: the message of the body alone where the number is 1, else nothing.
 -- Trusts: nothing.
 use borrow.Author.Needs.{needs}
 use borrow.Author.Tests.{eq-eqb, ne-eqb}
@@ -6,10 +6,10 @@ use mathlib.Core.Path.{_≡_, sym, _∙_}
 use mathlib.Core.List.{[]}
 use denote.Ref.{now}
 use lib.Dec.{eqb}
 use Rattle.collector.specs.Answers.{said}
-use Rattle.collector.proofs.LawsStep.{lentOf-own}
-use Rattle.collector.proofs.own_part.Statement.{statement}
-use Rattle.collector.proofs.own_part.Tie as tie
+use Rattle.lending.proofs.Laws.{lentOf-own}
+use Rattle.lending.proofs.own_part.Statement.{statement}
+use Rattle.lending.proofs.own_part.Tie as tie
 
 returns : tie.Need-returns
 returns c =

@@ -1,4 +1,4 @@
--- `collector::joined_part` gives `joinedOf`: nothing where the number is 1, else the message of the join buffer alone.
+-- `lending::joined_part` gives `joinedOf`: nothing where the number is 1, else the message of the join buffer alone.
 -- Trusts: nothing.
 use borrow.Author.Needs.{needs}
 use borrow.Author.Tests.{eq-eqb, ne-eqb}
@@ -6,10 +6,10 @@ use mathlib.Core.Path.{_≡_, sym, _∙_}
 use mathlib.Core.List.{[]}
 use denote.Ref.{now}
 use lib.Dec.{eqb}
 use Rattle.collector.specs.Answers.{said}
-use Rattle.collector.proofs.LawsStep.{lentOf-joined}
-use Rattle.collector.proofs.joined_part.Statement.{statement}
-use Rattle.collector.proofs.joined_part.Tie as tie
+use Rattle.lending.proofs.Laws.{lentOf-joined}
+use Rattle.lending.proofs.joined_part.Statement.{statement}
+use Rattle.lending.proofs.joined_part.Tie as tie
 
 returns : tie.Need-returns
 returns c = simp (eq-eqb _ _ (c .before .if1 .taken)) (c .front .ensures)

@@ -1,4 +1,4 @@
--- `collector::rest_part` gives what is behind the lent part, by what its callees ensure.
+-- `lending::rest_part` gives what is behind the lent part, by what its callees ensure.
 -- Trusts: nothing.
 use borrow.Author.Needs.{needs}
 use mathlib.Core.Path.{_≡_, ap, _∙_}
@@ -6,8 +6,8 @@ use mathlib.Core.List.{List}
 use Prim.Native.Nat.{ℕ}
 use denote.Ref.{now}
 use lib.ListN.{length, drop}
-use Rattle.collector.proofs.rest_part.Statement.{statement}
-use Rattle.collector.proofs.rest_part.Tie as tie
+use Rattle.lending.proofs.rest_part.Statement.{statement}
+use Rattle.lending.proofs.rest_part.Tie as tie
 
 returns : tie.Need-returns
 returns c =
