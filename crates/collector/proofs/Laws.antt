@@ -94,11 +94,10 @@ module _ (slots lens old : List ℕ) (k : ℕ) (fits : k * 1500 + getD lens k 0 
 
   pub joined-more : (b : List ℕ) (a : ℕ) → b ≡ joined slots lens k ++ drop (length (joined slots lens k)) old → a ≡ length (joined slots lens k)
       → length (joined slots lens k) + getD lens k 0 ≤ length old
-      → pasted b a (take (k * 1500 + getD lens k 0 - k * 1500) (drop (k * 1500) slots)) ≡ joined slots lens (suc k) ++ drop (length (joined slots lens (suc k))) old
+      → pasted b a (take (getD lens k 0) (drop (k * 1500) slots)) ≡ joined slots lens (suc k) ++ drop (length (joined slots lens (suc k))) old
   unfolding joined pieceAt
   joined-more b a e f room =
-      let g : k * 1500 + getD lens k 0 - k * 1500 ≡ getD lens k 0 = omega arith in
-      rw (e, f, g) (pasted-next (joined slots lens k) old (pieceAt slots lens k) (omega (arith, length-pieceAt-le slots lens k)) (omega arith))
+      rw (e, f) (pasted-next (joined slots lens k) old (pieceAt slots lens k) (omega (arith, length-pieceAt-le slots lens k)) (omega arith))
 
 -- ---- the slots after the piece p is stored in slot k
 

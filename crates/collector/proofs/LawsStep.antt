@@ -2,11 +2,11 @@
 --
 --   fits-of                what a body that is not refused is like
 --   refusalOf-room         the buffers are long enough, and the body's own tests are passed
---   wellMade-short         a well-made record has no length over 1,497
+--   wellMade-short, isOf-short    a well-made record has no length over 1,497
 --   relationOf-goesOn      where the body goes on, the record is well made and its number the body's
---   baseOf-number, baseOf-short    the record that the piece is noted in
---   step-refused, step-again, step-waiting, step-alone, step-joined    each answer of the code, as the step has it
---   lentOf-own, lentOf-joined, joinedOf-rest, step-lent    the two parts that a message is lent from
+--   baseOf-number, baseOf-short, from-number, from-short    the record that the piece is noted in
+--   set-bound              a length more that keeps the bound
+--   step-refused, step-again, step-stored, step-waiting, step-alone, step-joined    each answer of the code, as the step has it
 -- Trusts: nothing.
 use Prim.Native.Nat.{ℕ, zero, suc, _+_, _*_, _-_, _≤_, _<_}
 use mathlib.Core.Path.{_≡_, refl, sym, ap, _∙_}
@@ -17,12 +17,11 @@ use borrow.Author.Tests.{eqb-true, eqb-false, eq-eqb, ne-eqb, ltb-false, leb-tru
 use lib.ListN.{length, getD, set, replicate, getD-replicate, take, drop}
 use lib.Dec.{ltb, leb, eqb}
 use Rattle.wire.specs.Bytes.{pasted, sameBytes}
-use Rattle.wire.proofs.Laws.{both, rest-all}
-use Rattle.collector.specs.Answers.{Said, refused, again, waiting, complete, lentOf, ownOf, joinedOf}
+use Rattle.wire.proofs.Laws.{both}
+use Rattle.collector.specs.Answers.{Said, refused, again, waiting, complete}
 use Rattle.collector.specs.Pieces.{isFilled, emptySlots, soundTo, pieceAt, joined}
 use Rattle.collector.specs.Step.{countOf, numberOf, slotOf, pieceOf, bodyRefusal, refusalOf, wellMade, isOf, goesOn, repeats, anew, relationOf, emptyCollection, baseOf, noted, After, after, finished, accepted, collectStep}
-use Rattle.collector.specs.Lent.{LentAfter, lentStep}
-use Rattle.collector.specs.Duties.{Fits}
+use Rattle.collector.specs.Duties.{Fits, storedStep}
 use Rattle.collector.specs.declared.Collection.{Collection}
 use Rattle.collector.proofs.Laws.{soundTo-at, slotSound-len}
 
@@ -65,7 +64,7 @@ refusalOf-room slots join body h =
 -- ---- the record
 
 -- an element of a list after a store is bounded as its elements and the new one are
-set-bound : (l : List ℕ) (i a j b : ℕ) → getD l j 0 ≤ b → a ≤ b → getD (set l i a) j 0 ≤ b
+pub set-bound : (l : List ℕ) (i a j b : ℕ) → getD l j 0 ≤ b → a ≤ b → getD (set l i a) j 0 ≤ b
 set-bound [] i a j b h k = h
 set-bound (x ∷ xs) zero a zero b h k = k
 set-bound (x ∷ xs) zero a (suc j) b h k = h
@@ -77,6 +76,10 @@ unfolding wellMade
 wellMade-short r h k p =
     let s = both (soundTo (r .filled) (r .lengths) (r .number) 16) _ (both (leb (r .number) 16) _ h .1) in
     slotSound-len (getD (r .filled) k 0) (getD (r .lengths) k 0) k (r .number) (soundTo-at (r .filled) (r .lengths) (r .number) 16 k (s .0) p)
+
+pub isOf-short : (r : Collection) (count number : ℕ) → isOf r count number ≡ true → (k : ℕ) → k < 16 → getD (r .lengths) k 0 ≤ 1497
+unfolding isOf
+isOf-short r count number h = wellMade-short r (both (wellMade r) _ h .0)
 
 goes-on : (a b c : Bool) → cond a (cond b (cond c repeats anew) goesOn) anew ≡ goesOn → a ≡ true
 goes-on true b c h = refl
@@ -109,13 +112,6 @@ module _ (r : Collection) (slots body : List ℕ) where
   pub noted-short : (k : ℕ) → length body ≤ 1500 → k < 16 → getD (noted base (slotOf body) (length body - 3) .lengths) k 0 ≤ 1497
   noted-short k m p = set-bound (base .lengths) (slotOf body) (length body - 3) k 1497 (baseOf-short k p) (omega arith)
 
--- what the code compares is the held piece and the body's
-pub compared : (slots lens body : List ℕ) (k : ℕ) → sameBytes (take (k * 1500 + getD lens k 0 - k * 1500) (drop (k * 1500) slots)) (take (length body - 3) (drop 3 body)) ≡ sameBytes (pieceAt slots lens k) (pieceOf body)
-unfolding pieceAt
-compared slots lens body k =
-    let e : k * 1500 + getD lens k 0 - k * 1500 ≡ getD lens k 0 = omega arith in
-    rw (e, rest-all body 3) refl
-
 -- ---- each answer of the code, as the step has it
 
 pub step-refused : (r : Collection) (slots join body : List ℕ) (num : ℕ) → num ≡ refusalOf (length slots) (length join) body → (num ≡ 0 → ⊥)
@@ -128,17 +124,16 @@ module _ (r : Collection) (slots join body : List ℕ) (ok : refusalOf (length s
   unfolding collectStep accepted
   step-again how e h = simp (ok, ← e, h)
 
-  module _ (how : ℕ) (e : how ≡ relationOf r slots body) (ne : how ≡ repeats → ⊥) (from : Collection) (f : from ≡ baseOf how r body)
-      (next : Collection) (g : next ≡ noted from (slotOf body) (length body - 3)) where
-    pub next-number : next .number ≡ numberOf body
-    next-number = rw (g, f, e) (baseOf-number r slots body)
+  module _ (how : ℕ) (e : how ≡ relationOf r slots body) (ne : how ≡ repeats → ⊥) (from : Collection) (f : from ≡ baseOf how r body) where
+    pub from-number : from .number ≡ numberOf body
+    from-number = rw (f, e) (baseOf-number r slots body)
 
-    pub next-short : (k : ℕ) → length body ≤ 1500 → k < 16 → getD (next .lengths) k 0 ≤ 1497
-    next-short k m p = rw (g, f, e) (noted-short r slots body k m p)
+    pub from-short : (k : ℕ) → k < 16 → getD (from .lengths) k 0 ≤ 1497
+    from-short k p = rw (f, e) (baseOf-short r slots body k p)
 
-    pub step-stored : (stored : List ℕ) → stored ≡ pasted slots (slotOf body * 1500) (pieceOf body) → finished next stored join (length body - 3) ≡ collectStep r slots join body
+    pub step-stored : storedStep from slots join body ≡ collectStep r slots join body
     unfolding collectStep accepted
-    step-stored stored h = simp (ok, ← e, ne-eqb how 1 ne, ← f, ← g, ← h)
+    step-stored = simp (ok, ← e, ne-eqb how 1 ne, ← f)
 
 -- the piece is stored and noted, and m slots are empty
 module _ (next : Collection) (stored join : List ℕ) (len : ℕ) (R : After) (e : finished next stored join len ≡ R) (m : ℕ) (a : m ≡ emptySlots (next .filled) (next .number)) where
@@ -154,47 +149,3 @@ module _ (next : Collection) (stored join : List ℕ) (len : ℕ) (R : After) (e
       → (last : List ℕ) → last ≡ joined stored (next .lengths) (next .number) ++ drop size join → after (complete size) next stored last ≡ R
   unfolding finished
   step-joined b d size i last l = simp (l, i) (simp (← a, eq-eqb m 0 b, ne-eqb (next .number) 1 d) at e)
-
--- ---- the two parts that a message is lent from
-
--- in one piece the join buffer does not matter, and otherwise the body
-pub lentOf-own : (a : Said) (number : ℕ) (body j j′ : List ℕ) → eqb number 1 ≡ true → lentOf a number body j ≡ lentOf a number body j′
-unfolding lentOf
-lentOf-own (refused n) number body j j′ e = refl
-lentOf-own again number body j j′ e = refl
-lentOf-own (waiting k) number body j j′ e = refl
-lentOf-own (complete n) number body j j′ e = rw e refl
-
-pub lentOf-joined : (a : Said) (number : ℕ) (b b′ join : List ℕ) → eqb number 1 ≡ false → lentOf a number b join ≡ lentOf a number b′ join
-unfolding lentOf
-lentOf-joined (refused n) number b b′ join e = refl
-lentOf-joined again number b b′ join e = refl
-lentOf-joined (waiting k) number b b′ join e = refl
-lentOf-joined (complete n) number b b′ join e = rw e refl
-
-take-front : (n : ℕ) (l : List ℕ) → take n l ++ drop (length (take n l)) l ≡ l
-take-front zero l = refl
-take-front (suc n) [] = refl
-take-front (suc n) (x ∷ l) = ap (λ (r : List ℕ). x ∷ r) (take-front n l)
-
--- the lent part of the join buffer and the rest are all of it
-none-front : (t : Bool) (l : List ℕ) → let e : List ℕ = [] in cond t e e ++ drop (length (cond t e e)) l ≡ l
-none-front true l = refl
-none-front false l = refl
-
-some-front : (t : Bool) (n : ℕ) (l b : List ℕ) → cond t [] (cond t b (take n l)) ++ drop (length (cond t [] (cond t b (take n l)))) l ≡ l
-some-front true n l b = refl
-some-front false n l b = take-front n l
-
-pub joinedOf-rest : (a : Said) (number : ℕ) (join : List ℕ) → joinedOf a number join ++ drop (length (joinedOf a number join)) join ≡ join
-unfolding lentOf
-joinedOf-rest (refused n) number join = none-front (eqb number 1) join
-joinedOf-rest again number join = none-front (eqb number 1) join
-joinedOf-rest (waiting k) number join = none-front (eqb number 1) join
-joinedOf-rest (complete n) number join = some-front (eqb number 1) n join []
-
-pub step-lent : (r : Collection) (slots join body : List ℕ) (R : After) (own part rest : List ℕ) → R ≡ collectStep r slots join body → own ≡ ownOf (R .answer) (R .held .number) body
-    → part ≡ joinedOf (R .answer) (R .held .number) (R .join) → rest ≡ drop (length (joinedOf (R .answer) (R .held .number) (R .join))) (R .join)
-    → _≡_ {A = LentAfter} (record { answer = R .answer; held = R .held; slots = R .slots; own = own; joined = part; rest = rest }) (lentStep r slots join body)
-unfolding lentStep
-step-lent r slots join body R own part rest e f g h = rw (← e, f, g, h) refl

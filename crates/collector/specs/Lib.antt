@@ -1,5 +1,4 @@
 pub mod Answers
 pub mod Pieces
 pub mod Step
-pub mod Lent
 pub mod Duties

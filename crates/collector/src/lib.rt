@@ -1,23 +1,20 @@
 // Collects the pieces of a message (document 01, "Collecting pieces").
 //
-// Four public functions. `empty_collection` gives a record with nothing collected. `collect` takes a
+// Two public functions. `empty_collection` gives a record with nothing collected. `collect` takes a
 // record, the two lent buffers and a body, and answers Refused (1 to 5), Repeat, Waiting or Complete.
-// `message` lends the message that belongs to an outcome: a part of the body or of the join buffer.
-// `collect_lent` does both in one call, with the two slices at their own lifetimes.
 //
-// All take any record and buffers of any length: bad input is an answer, never a duty of the caller,
+// It takes any record and buffers of any length: bad input is an answer, never a duty of the caller,
 // and after a refusal record and buffers are as they were. The slot buffer changes only where a piece
 // is stored, the join buffer only where a message of several pieces is joined.
 ghost use mathlib.Core.Path.{_≡_};
 ghost use Prim.Native.Nat.{ℕ, _-_, _*_, _+_, _≤_, _<_};
 ghost use mathlib.Core.List.{_++_};
 ghost use lib.ListN.{length, take, drop, getD};
-ghost use Rattle.wire.specs.Bytes.{pasted};
+ghost use Rattle.wire.specs.Bytes.{pasted, sameBytes};
 ghost use Rattle.collector.specs.Pieces.{emptySlots, mostFlag, mostLength, slotSound, soundTo, joined};
-ghost use Rattle.collector.specs.Answers.{said, lentOf, ownOf, joinedOf};
-ghost use Rattle.collector.specs.Duties.{Fits};
-ghost use Rattle.collector.specs.Step.{pieceOf, bodyRefusal, refusalOf, wellMade, relationOf, emptyCollection, noted, baseOf, After, collectStep};
-ghost use Rattle.collector.specs.Lent.{LentAfter, lentStep};
+ghost use Rattle.collector.specs.Answers.{said};
+ghost use Rattle.collector.specs.Duties.{Fits, storedStep};
+ghost use Rattle.collector.specs.Step.{numberOf, pieceOf, bodyRefusal, refusalOf, wellMade, isOf, relationOf, emptyCollection, baseOf, After, finished, collectStep};
 
 // The least length of a lent buffer, the bytes of a slot, and the most bytes of a piece.
 pub const BUFFER_BYTES: usize = 24000;
@@ -78,17 +75,6 @@ pub fn empty_collection() -> Collection
     ensures { λ r. ⌜ r ≡ emptyCollection 0 0 ⌝ }
 {
     begin(0, 0)
-}
-
-// The record with slot `k` filled with `len` bytes.
-fn note(held: Collection, k: usize, len: u16) -> Collection
-    requires { ⌜ k < 16 ⌝ }
-    ensures { λ r. ⌜ r ≡ noted held k len ⌝ }
-{
-    let mut r = held;
-    r.filled[k] = 1;
-    r.lengths[k] = len;
-    r
 }
 
 // How many of the first `n` slots are empty.
@@ -202,18 +188,34 @@ fn refuse(slots: usize, join: usize, body: &[u8]) -> u8
     refuse_body(body)
 }
 
+// Whether the held collection is the one of this count and number.
+fn is_of(held: Collection, count: u8, number: u8) -> bool
+    ensures { λ r. ⌜ r ≡ isOf held count number ⌝ }
+{
+    if !well_made(held) {
+        return false;
+    }
+    if held.count != count {
+        return false;
+    }
+    held.number == number
+}
+
+// Whether slot `k`, with `len` bytes, has the body's piece.
+fn has_piece(slots: &[u8], k: usize, len: usize, body: &[u8]) -> bool
+    requires { ⌜ (3 ≤ length (now body)) × (k * 1500 + len ≤ length (now slots)) ⌝ }
+    ensures { λ r. ⌜ r ≡ sameBytes (take len (drop (k * 1500) (now (slots .entry)))) (pieceOf (now (body .entry))) ⌝ }
+{
+    let at = k * SLOT_BYTES;
+    wire::same_bytes(&slots[at..at + len], &body[3..])
+}
+
 // How the body stands to what is held.
 fn relate(held: Collection, slots: &[u8], body: &[u8]) -> u8
     requires { ⌜ (24000 ≤ length (now slots)) × Fits (now body) ⌝ }
     ensures { λ r. ⌜ r ≡ relationOf held (now (slots .entry)) (now (body .entry)) ⌝ }
 {
-    if !well_made(held) {
-        return ANEW;
-    }
-    if held.count != body[0] {
-        return ANEW;
-    }
-    if held.number != body[1] {
+    if !is_of(held, body[0], body[1]) {
         return ANEW;
     }
     let s = body[2] as usize;
@@ -221,9 +223,8 @@ fn relate(held: Collection, slots: &[u8], body: &[u8]) -> u8
     if held.filled[k] != 1 {
         return GOES_ON;
     }
-    let at = k * SLOT_BYTES;
     let len = held.lengths[k] as usize;
-    if wire::same_bytes(&slots[at..at + len], &body[3..]) {
+    if has_piece(slots, k, len, body) {
         return REPEATS;
     }
     ANEW
@@ -249,6 +250,15 @@ fn store(slots: &mut [u8], k: usize, body: &[u8])
     wire::copy_at(slots, at, &body[3..]);
 }
 
+// Copies the `len` bytes of slot `k` into the join buffer from `at` on.
+fn join_one(slots: &[u8], join: &mut [u8], k: usize, len: usize, at: usize)
+    requires { ⌜ k * 1500 + len ≤ length (now slots) ⌝ }
+    ensures { λ _. ⌜ now (join .exit) ≡ pasted (now (join .entry)) at (take len (drop (k * 1500) (now (slots .entry)))) ⌝ }
+{
+    let from = k * SLOT_BYTES;
+    wire::copy_at(join, at, &slots[from..from + len]);
+}
+
 // Joins the pieces of the first `n` slots at the start of the join buffer; answers their length.
 fn join_up(slots: &[u8], join: &mut [u8], lengths: [u16; 16], n: usize) -> usize
     requires { ⌜ (n ≤ 16) × (24000 ≤ length (now slots)) ⌝ }
@@ -260,13 +270,51 @@ fn join_up(slots: &[u8], join: &mut [u8], lengths: [u16; 16], n: usize) -> usize
     let mut at = 0;
     let mut k = 0;
     while k < n {
-        let from = k * SLOT_BYTES;
         let len = lengths[k] as usize;
-        wire::copy_at(join, at, &slots[from..from + len]);
+        join_one(slots, join, k, len, at);
         at += len;
         k += 1;
     }
     at
+}
+
+// The answer to a piece of `len` bytes that is stored and noted; a message of several pieces is joined.
+fn finish(next: Collection, slots: &[u8], join: &mut [u8], len: usize) -> Answer
+    requires { ⌜ (next .number ≤ 16) × (24000 ≤ length (now slots)) ⌝ }
+    requires { ⌜ 24000 ≤ length (now join) ⌝ }
+    requires { ⌜ ((k : ℕ) → k < 16 → getD (next .lengths) k 0 ≤ 1497) ⌝ }
+    ensures { λ r. ⌜ record { answer = said r; held = next; slots = now (slots .entry); join = now (join .exit) } ≡ finished next (now (slots .entry)) (now (join .entry)) len ⌝ }
+{
+    let filled = next.filled;
+    let n = next.number as usize;
+    let empty = count_empty(filled, n);
+    if empty != 0 {
+        return Answer::Waiting(empty);
+    }
+    if n == 1 {
+        return Answer::Complete(len);
+    }
+    let lengths = next.lengths;
+    let size = join_up(slots, join, lengths, n);
+    Answer::Complete(size)
+}
+
+// Notes the body's piece in `from` and stores it; the answer, and the record after it.
+fn accept(from: Collection, slots: &mut [u8], join: &mut [u8], body: &[u8]) -> Outcome
+    requires { ⌜ Fits (now body) × (from .number ≡ numberOf (now body)) ⌝ }
+    requires { ⌜ (24000 ≤ length (now slots)) × (24000 ≤ length (now join)) ⌝ }
+    requires { ⌜ ((k : ℕ) → k < 16 → getD (from .lengths) k 0 ≤ 1497) ⌝ }
+    ensures { λ r. ⌜ record { answer = said (r .answer); held = r .held; slots = now (slots .exit); join = now (join .exit) } ≡ storedStep from (now (slots .entry)) (now (join .entry)) (now (body .entry)) ⌝ }
+{
+    let s = body[2] as usize;
+    let k = s - 1;
+    let len = body.len() - 3;
+    let mut next = from;
+    next.filled[k] = 1;
+    next.lengths[k] = len as u16;
+    store(slots, k, body);
+    let answer = finish(next, slots, join, len);
+    Outcome { answer, held: next }
 }
 
 // One body: its answer and the record after it; the piece is stored, and a message of several pieces joined.
@@ -287,148 +335,6 @@ pub fn collect(held: Collection, slots: &mut [u8], join: &mut [u8], body: &[u8])
             held,
         };
     }
-    let s = body[2] as usize;
-    let k = s - 1;
-    let len = body.len() - 3;
     let from = base(how, held, body);
-    let next = note(from, k, len as u16);
-    store(slots, k, body);
-    let filled = next.filled;
-    let n = next.number as usize;
-    let empty = count_empty(filled, n);
-    if empty != 0 {
-        return Outcome {
-            answer: Answer::Waiting(empty),
-            held: next,
-        };
-    }
-    if n == 1 {
-        return Outcome {
-            answer: Answer::Complete(len),
-            held: next,
-        };
-    }
-    let lengths = next.lengths;
-    let size = join_up(slots, join, lengths, n);
-    Outcome {
-        answer: Answer::Complete(size),
-        held: next,
-    }
-}
-
-// The first `n` bytes, or all where there are fewer.
-fn front<'a>(bytes: &'a [u8], n: usize) -> &'a [u8]
-    ensures { λ r. ⌜ now r ≡ take n (now (bytes .entry)) ⌝ }
-{
-    if n <= bytes.len() {
-        return &bytes[..n];
-    }
-    bytes
-}
-
-// The message bytes of a body.
-fn piece<'b>(body: &'b [u8]) -> &'b [u8]
-    ensures { λ r. ⌜ now r ≡ pieceOf (now (body .entry)) ⌝ }
-{
-    if body.len() < 3 {
-        return &body[..0];
-    }
-    &body[3..]
-}
-
-// The message that an outcome reports, lent from the body or the join buffer; nothing where none is complete.
-pub fn message<'a>(outcome: Outcome, body: &'a [u8], join: &'a [u8]) -> &'a [u8]
-    ensures { λ r. ⌜ now r ≡ lentOf (said (outcome .answer)) (outcome .held .number) (now (body .entry)) (now (join .entry)) ⌝ }
-{
-    let number = outcome.held.number;
-    let answer = outcome.answer;
-    match answer {
-        Answer::Complete(n) => {
-            if number == 1 {
-                return piece(body);
-            }
-            front(join, n)
-        }
-        Answer::Refused(_) | Answer::Repeat | Answer::Waiting(_) => front(body, 0),
-    }
-}
-
-// The bytes from the place `n` on, none where there are fewer.
-fn behind<'a>(bytes: &'a [u8], n: usize) -> &'a [u8]
-    ensures { λ r. ⌜ now r ≡ drop n (now (bytes .entry)) ⌝ }
-{
-    if n <= bytes.len() {
-        return &bytes[n..];
-    }
-    &bytes[..0]
-}
-
-// The part of the body that is lent with an outcome.
-fn own_part<'b>(outcome: Outcome, body: &'b [u8]) -> &'b [u8]
-    ensures { λ r. ⌜ now r ≡ ownOf (said (outcome .answer)) (outcome .held .number) (now (body .entry)) ⌝ }
-{
-    let number = outcome.held.number;
-    if number == 1 {
-        return message(outcome, body, body);
-    }
-    front(body, 0)
-}
-
-// The part of the join buffer that is lent with an outcome.
-fn joined_part<'j>(outcome: Outcome, join: &'j [u8]) -> &'j [u8]
-    ensures { λ r. ⌜ now r ≡ joinedOf (said (outcome .answer)) (outcome .held .number) (now (join .entry)) ⌝ }
-{
-    let number = outcome.held.number;
-    if number == 1 {
-        return front(join, 0);
-    }
-    message(outcome, join, join)
-}
-
-// The rest of the join buffer.
-fn rest_part<'j>(outcome: Outcome, join: &'j [u8]) -> &'j [u8]
-    ensures { λ r. ⌜ now r ≡ drop (length (joinedOf (said (outcome .answer)) (outcome .held .number) (now (join .entry)))) (now (join .entry)) ⌝ }
-{
-    let part = joined_part(outcome, join);
-    let n = part.len();
-    behind(join, n)
-}
-
-// The join buffer, shared for good.
-fn share<'j>(join: &'j mut [u8]) -> &'j [u8]
-    ensures { λ r. ⌜ now r ≡ now (join .entry) ⌝ }
-{
-    &join[..]
-}
-
-// The outcome with the message lent at two lifetimes: as a part of the body where it came in one piece,
-// else as a part of the join buffer; the other is empty, and both are where none is complete. The rest of
-// the join buffer is lent too, so that every byte of it is known.
-pub struct Lent<'b, 'j> {
-    pub outcome: Outcome,
-    pub own: &'b [u8],
-    pub joined: &'j [u8],
-    pub rest: &'j [u8],
-}
-
-// `collect`, with the message lent back.
-pub fn collect_lent<'b, 'j, 's>(
-    held: Collection,
-    slots: &'s mut [u8],
-    join: &'j mut [u8],
-    body: &'b [u8],
-) -> Lent<'b, 'j>
-    ensures { λ r. ⌜ record { answer = said (r .outcome .answer); held = r .outcome .held; slots = now (slots .exit); own = now (r .own); joined = now (r .joined); rest = now (r .rest) } ≡ lentStep held (now (slots .entry)) (now (join .entry)) (now (body .entry)) ⌝ }
-{
-    let outcome = collect(held, slots, &mut *join, body);
-    let own = own_part(outcome, body);
-    let shared = share(join);
-    let joined = joined_part(outcome, shared);
-    let rest = rest_part(outcome, shared);
-    Lent {
-        outcome,
-        own,
-        joined,
-        rest,
-    }
+    accept(from, slots, join, body)
 }

@@ -25,7 +25,7 @@ use Rattle.wire.specs.Bytes.{pasted}
 use Rattle.collector.specs.Answers.{Said, refused, again, waiting, complete, lentOf}
 use Rattle.collector.specs.Pieces.{emptySlots, joined}
 use Rattle.collector.specs.Step.{numberOf, slotOf, pieceOf, bodyRefusal, refusalOf, relationOf, repeats, baseOf, noted, After, after, finished, accepted, collectStep}
-use Rattle.collector.specs.Lent.{LentAfter, lentStep}
+use Rattle.lending.specs.Lent.{LentAfter, lentStep}
 use Rattle.collector.specs.declared.Collection.{Collection}
 use Rattle.table.specs.declared.Table.{Table}
 use Rattle.elements.specs.Elements.{headAt}

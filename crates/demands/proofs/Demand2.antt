@@ -13,15 +13,15 @@ use denote.Triple.Clauses.{AtExit}
 use Rattle.demands.proofs.Contract.{Gives, Says, answer}
 use Rattle.collector.specs.Answers.{said, lentOf}
 use Rattle.collector.specs.Step.{emptyCollection, After, collectStep}
-use Rattle.collector.specs.Lent.{LentAfter, lentStep}
+use Rattle.lending.specs.Lent.{LentAfter, lentStep}
 use Rattle.collector.proofs.empty_collection.Reads as empty_collection
 use Rattle.collector.proofs.collect.Reads as collect
 use Rattle.collector.proofs.collect.Statement as collect′
 use Rattle.collector.proofs.collect.Met as collect″
-use Rattle.collector.proofs.message.Reads as message
-use Rattle.collector.proofs.collect_lent as collect_lent
-use Rattle.collector.proofs.collect_lent.Statement as collect_lent′
-use Rattle.collector.proofs.collect_lent.Met as collect_lent″
+use Rattle.lending.proofs.message.Reads as message
+use Rattle.lending.proofs.collect_lent as collect_lent
+use Rattle.lending.proofs.collect_lent.Statement as collect_lent′
+use Rattle.lending.proofs.collect_lent.Met as collect_lent″
 use Rattle.reader.specs.Read.{readTable}
 use Rattle.reader.proofs.read_table.Reads as read_table
 use Rattle.reader.proofs.read_table.Statement as read_table′

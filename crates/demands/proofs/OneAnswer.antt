@@ -12,12 +12,12 @@ use Rattle.demands.proofs.Contract.{One, only, answer}
 use Rattle.demands.proofs.Demand2 as demand2
 use Rattle.collector.specs.Answers.{said}
 use Rattle.collector.specs.Step.{After}
-use Rattle.collector.specs.Lent.{LentAfter}
+use Rattle.lending.specs.Lent.{LentAfter}
 use Rattle.modem.specs.declared.Stepped.{Stepped}
 use Rattle.reader.proofs.read_table.Reads as read_table
 use Rattle.collector.proofs.empty_collection.Reads as empty_collection
 use Rattle.collector.proofs.collect.Reads as collect
-use Rattle.collector.proofs.message.Reads as message
+use Rattle.lending.proofs.message.Reads as message
 use Rattle.choice.proofs.is_better.Reads as is_better
 use Rattle.choice.proofs.rule_at.Reads as choice_rule_at
 use Rattle.choice.proofs.choose_rule.Reads as choose_rule

@@ -8,7 +8,8 @@
 --   take-pasted, drop-pasted, part-pasted-before, part-pasted-behind     what does not change
 --   getD-pasted-in, getD-pasted-out                    one byte of it
 --   sameBytes-true, sameBytes-refl, sameBytes-snoc     true means equal lists; one byte more
---   rest-all          what `&s[a..]` leaves            clash, both       false is not true; both of two tests
+--   rest-all, part-all    what `&s[a..]` and `&s[a..a + n]` leave
+--   clash, both           false is not true; both of two tests
 -- Trusts: nothing.
 use Prim.Native.Nat.{ℕ, zero, suc, _+_, _*_, _-_, _^_, _≤_, _<_}
 use mathlib.Core.Path.{_≡_, refl, sym, ap, _∙_}
@@ -172,3 +173,7 @@ sameBytes-snoc (u ∷ a) (v ∷ b) x y h = rw (sameBytes-snoc a b x y (omega ari
 -- `&s[a..]` gives take (length s - a) (drop a s)
 pub rest-all : (l : List ℕ) (a : ℕ) → take (length l - a) (drop a l) ≡ drop a l
 rest-all l a = take-all (length l - a) (drop a l) (omega (arith, length-drop a l))
+
+-- `&s[a..a + n]` gives take (a + n - a) (drop a s)
+pub part-all : (l : List ℕ) (a n : ℕ) → take (a + n - a) (drop a l) ≡ take n (drop a l)
+part-all l a n = let e : a + n - a ≡ n = omega arith in rw e refl

@@ -1,2 +1,4 @@
--- Laws: what proofs here and above may know of numberAt, pasted and sameBytes.
+-- Laws: bytes as numbers, a piece put into a buffer, two parts compared, on plain lists.
+-- Blocks: what is copied and compared a block at a time.
 pub mod Laws
+pub mod Blocks

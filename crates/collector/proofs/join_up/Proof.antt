@@ -35,7 +35,7 @@ short c = c .before .before .before .before .pre .1 .1 (c .before .loop .k) (ome
 
 loop-again : tie.Need-loop-again Inv-loop μ-loop
 loop-again c =
-    let turn = c .before .before .before .before .before in
+    let turn = c .before .before .before .before in
     let k = turn .before .loop .k in
     let inv = turn .before .loop .inv in
     let a = turn .before .before .before .before .args in
@@ -43,9 +43,9 @@ loop-again c =
     let fits : k * 1500 + Len turn ≤ length (now (a .slots)) = omega arith in (
       omega arith,
       omega arith,
-      omega (arith, c .before .before .copy-at .kept .0),
+      omega (arith, c .before .before .join-one .kept .1 .0),
       rw (add-one, inv .3) (joined-at (now (a .slots)) (a .t3) (now (a .join)) k fits),
-      rw add-one (c .before .before .copy-at .ensures ∙ joined-more (now (a .slots)) (a .t3) (now (a .join)) k fits _ _ (inv .4) (inv .3) (omega arith)),
+      rw add-one (c .before .before .join-one .ensures ∙ joined-more (now (a .slots)) (a .t3) (now (a .join)) k fits _ _ (inv .4) (inv .3) (omega arith)),
     )
 
 returns : tie.Need-returns Inv-loop μ-loop
@@ -63,14 +63,9 @@ join-up-spec =
     loop-holds
     (λ c. omega arith)
     (λ c. omega arith)
-    (λ c. omega arith)
     (λ c. omega (arith, short c))
-    (λ c. omega (arith, short (c .before)))
-    (λ c. omega arith)
-    (λ c. omega arith)
-    (λ c. omega (arith, short (c .before)))
-    (λ c κs. search needs)
-    (λ c. omega (arith, short (c .before .before .before .before .before)))
+    (λ c κs. omega (arith, short (c .before)))
+    (λ c. omega (arith, short (c .before .before .before .before)))
     (λ c. omega arith)
     (λ c. omega arith)
     loop-again
