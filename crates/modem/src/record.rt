@@ -4,8 +4,11 @@
 // moves a modem to another state.
 ghost use mathlib.Core.Path.{_≡_};
 ghost use mathlib.Core.Bool.{cond};
+ghost use Prim.Native.Nat.{_≤_};
+ghost use lib.Dec.{eqb};
 ghost use Rattle.modem.specs.States.{isSending, isForwarding};
-ghost use Rattle.modem.specs.Record.{receiveMark, isSpoilt, countsIdle};
+ghost use Rattle.modem.specs.Record.{countsIdle};
+ghost use Rattle.modem.specs.Idle.{isUnsuited, isLate, isHeldOver};
 ghost use Rattle.modem.specs.Step.{clockStep, isBack, fallen, aged};
 use crate::Modem;
 
@@ -38,58 +41,78 @@ pub(crate) fn wide_mark(fact: bool) -> u16
     if fact { 1 } else { 0 }
 }
 
-// The mark that is due for the receive timer.
-fn receive_mark(m: Modem) -> u16
-    ensures { λ r. ⌜ r ≡ receiveMark m ⌝ }
+// A bit for each number `8 state + 4 receiveon + 2 hasucid + permission` of a record that is in a state, has the marks of
+// that state and a permission that it allows.
+const SUITED: u64 = 13651674617873152;
+
+// Whether a record is Idle or in no state, or has marks or a permission that its state has not: one look into `SUITED`.
+fn is_unsuited(state: u8, receiveon: u16, hasucid: u8, permission: u8) -> bool
+    ensures { λ r. ⌜ r ≡ isUnsuited state receiveon hasucid permission ⌝ }
 {
-    if (m.state == crate::IDLE) | (m.state == crate::SCANNING) {
-        0
-    } else {
-        1
+    if 7 < state {
+        return true;
     }
+    if 1 < receiveon {
+        return true;
+    }
+    if 1 < hasucid {
+        return true;
+    }
+    if 1 < permission {
+        return true;
+    }
+    suited_bit(
+        state as u32,
+        receiveon as u32,
+        hasucid as u32,
+        permission as u32,
+    )
+        == 0
 }
 
-// Whether a timer value that must not be 0 is 0, or a timer that runs shows more than it can be loaded with.
-fn is_spoilt(m: Modem) -> bool
-    ensures { λ r. ⌜ r ≡ isSpoilt m ⌝ }
+// The bit of `SUITED` for these four.
+fn suited_bit(state: u32, receiveon: u32, hasucid: u32, permission: u32) -> u64
+    requires { ⌜ (state ≤ 7) × (receiveon ≤ 1) × (hasucid ≤ 1) × (permission ≤ 1) ⌝ }
+    ensures { λ r. ⌜ eqb r 0 ≡ isUnsuited state receiveon hasucid permission ⌝ }
 {
-    (m.tdsg1 == 0)
-        | (m.tdsg2 == 0)
-        | ((m.receiveon != 0) & (65535000 < m.receive))
-        | ((m.retryon != 0) & (65535000 < m.retry))
+    (SUITED >> (state * 8 + receiveon * 4 + hasucid * 2 + permission)) % 2
 }
 
-// Whether a record is Idle or breaks a rule: one test after the other, so that each costs a compare and a jump.
+// Whether the retry timer runs where it must not, or shows more than it can be loaded with.
+fn is_late(state: u8, permission: u8, retryon: u16, retry: u32) -> bool
+    ensures { λ r. ⌜ r ≡ isLate state permission retryon retry ⌝ }
+{
+    if retryon == 0 {
+        return false;
+    }
+    (retryon != 1) | (state != crate::ONE_WAY) | (permission != 1) | (65535000 < retry)
+}
+
+// Whether a timer that runs shows more than it can be loaded with: what it shows, times its mark.
+fn is_held_over(on: u16, left: u32) -> bool
+    requires { ⌜ on ≤ 1 ⌝ }
+    ensures { λ r. ⌜ r ≡ isHeldOver on left ⌝ }
+{
+    65535000 < left * on as u32
+}
+
+// Whether a record is Idle or breaks a rule. The tests that a sound record passes cost a compare and a jump each.
 pub(crate) fn counts_idle(m: Modem) -> bool
     ensures { λ r. ⌜ r ≡ countsIdle m ⌝ }
 {
-    let s = m.state;
-    if s == crate::IDLE {
+    if m.tdsg1 == 0 {
         return true;
     }
-    if crate::RESTING < s {
+    if m.tdsg2 == 0 {
         return true;
     }
-    if 1 < m.permission {
+    if is_unsuited(m.state, m.receiveon, m.hasucid, m.permission) {
         return true;
     }
-    let due = receive_mark(m);
-    if m.receiveon != due {
+    if is_late(m.state, m.permission, m.retryon, m.retry) {
         return true;
     }
-    let most = wide_mark((s == crate::ONE_WAY) & (m.permission == 1));
-    if most < m.retryon {
-        return true;
-    }
-    let known = mark(s == crate::TWO_WAY);
-    if m.hasucid != known {
-        return true;
-    }
-    let least = mark(is_sending(m));
-    if m.permission < least {
-        return true;
-    }
-    is_spoilt(m)
+    is_held_over(m.receiveon, m.receive)
 }
 
 // The step of the clock since `last`, over its top.

@@ -1,36 +1,36 @@
--- `modem::record::counts_idle` gives `countsIdle`: a test that fails makes one part of the chain true; after the last the chain is what `is_spoilt` ensures.
+-- `modem::record::counts_idle` gives `countsIdle`: each return cites the law of its part; after the last test the chain is what `is_held_over` ensures.
 -- Trusts: nothing.
 use borrow.Author.Needs.{needs}
-use borrow.Author.Tests.{eq-eqb, le-ltb, lt-ltb, ne-eqb}
+use borrow.Author.Tests.{eq-eqb, ne-eqb}
+use mathlib.Core.Path.{sym, _∙_}
 use Rattle.modem.proofs.Laws.{or-true}
+use Rattle.modem.proofs.LawsIdle.{isUnsuited→mark, countsIdle-unsuited, countsIdle-late, countsIdle-rest}
 use Rattle.modem.specs.Record.{countsIdle, isBroken}
 use Rattle.modem.proofs.record.counts_idle.Statement.{statement}
 use Rattle.modem.proofs.record.counts_idle.Tie as tie
 
-pub counts-idle-spec : {M : Type 1} → statement M
+-- a Tdsg1 or a Tdsg2 of 0
+returns : tie.Need-returns
 unfolding countsIdle isBroken
+returns c = simp (eq-eqb _ _ (c .if1 .taken), or-true)
+
+returns-2 : tie.Need-returns-2
+unfolding countsIdle isBroken
+returns-2 c = simp (eq-eqb _ _ (c .if2 .taken), or-true)
+
+pub counts-idle-spec : {M : Type 1} → statement M
 counts-idle-spec =
     tie.close
     (tie.spec
-    -- Idle
-    (λ c. rw (eq-eqb _ _ (c .if1 .taken)))
-    -- no state
-    (λ c. simp (lt-ltb _ _ (c .if2 .taken), or-true))
-    -- no permission
-    (λ c. simp (lt-ltb _ _ (c .if3 .taken), or-true))
+    returns
+    returns-2
     (λ c κs. search needs)
-    -- receive
-    (λ c. simp (← c .before .before .receive-mark .ensures, ne-eqb _ _ (c .if4 .taken), or-true))
+    -- marks and permission
+    (λ c. sym (countsIdle-unsuited _ (sym (c .before .is-unsuited .ensures) ∙ c .if3 .taken)))
     (λ c κs. search needs)
     -- retry
-    (λ c. simp (← c .before .before .wide-mark .ensures, lt-ltb _ _ (c .if5 .taken), or-true))
-    (λ c κs. search needs)
-    -- UCID
-    (λ c. simp (← c .before .before .mark .ensures, ne-eqb _ _ (c .if6 .taken), or-true))
-    (λ c κs. search needs)
-    (λ c κs. search needs)
-    -- Ranging or TwoWay without permission
-    (λ c. simp (← c .before .before .before .is-sending .ensures, ← c .before .before .mark2 .ensures, lt-ltb _ _ (c .if7 .taken), or-true))
-    (λ c κs. search needs)
-    -- the rest
-    (λ c. let c7 = c .before in let c6 = c7 .before .before .before .before in let c5 = c6 .before .before .before in let c4 = c5 .before .before .before .before in let c3 = c4 .before .before .before in let c2 = c3 .before .before in rw (c .is-spoilt .ensures, ← c4 .before .before .receive-mark .ensures, ← c5 .before .before .wide-mark .ensures, ← c6 .before .before .mark .ensures, ← c7 .before .before .before .is-sending .ensures, ← c7 .before .before .mark2 .ensures, ne-eqb _ _ (c2 .before .if1 .left), le-ltb _ _ (c2 .if2 .left), le-ltb _ _ (c3 .if3 .left), eq-eqb _ _ (c4 .if4 .left), le-ltb _ _ (c5 .if5 .left), eq-eqb _ _ (c6 .if6 .left), le-ltb _ _ (c7 .if7 .left))))
+    (λ c. sym (countsIdle-late _ (sym (c .before .is-late .ensures) ∙ c .if4 .taken)))
+    -- the receive mark is 0 or 1
+    (λ c κs. isUnsuited→mark _ _ _ _ (sym (c .before .before .before .is-unsuited .ensures) ∙ c .before .before .if3 .left))
+    -- the receive timer
+    (λ c. c .is-held-over .ensures ∙ sym (countsIdle-rest _ (ne-eqb _ _ (c .before .before .before .before .before .before .before .if1 .left)) (ne-eqb _ _ (c .before .before .before .before .before .if2 .left)) (sym (c .before .before .before .before .is-unsuited .ensures) ∙ c .before .before .before .if3 .left) (sym (c .before .before .is-late .ensures) ∙ c .before .if4 .left))))
