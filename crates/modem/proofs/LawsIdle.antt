@@ -1,6 +1,7 @@
 -- Laws of the parts of `countsIdle` (specs/Idle.antt).
 --
 --   suited             the bit of a constant says whether four numbers are unsuited: computed for all 64
+--   or-left, or-right, isUnsuited-over   three numbers joined bit by bit are over 1 where one of them is
 --   isUnsuited-..      a number out of its range is unsuited;  isUnsuited→mark   a suited record's receive mark is 0 or 1
 --   countsIdle-..      what each part says of the whole, in the order of the tests
 -- Trusts: nothing.
@@ -9,6 +10,7 @@ use mathlib.Core.Path.{_≡_, refl, sym, _∙_, ap}
 use mathlib.Core.Bool.{Bool, true, false, cond, not, _&&_, _||_, true≢false}
 use native.Mathlib.Omega.{arith}
 use lib.Dec.{ltb, eqb}
+use lib.Bits.{bitOr, or-add-and, and-le-l, and-le-r, or-lt}
 use borrow.Author.Tests.{ltb-true, ltb-false, eqb-true, eqb-false, lt-ltb, le-ltb, ne-eqb}
 use Rattle.modem.proofs.Laws.{or-true}
 use Rattle.modem.specs.declared.Modem.{Modem}
@@ -77,6 +79,26 @@ module _ (s r u p : ℕ) where
   pub isUnsuited-permission : 1 < p → isUnsuited s r u p ≡ true
   unfolding isUnsuited
   isUnsuited-permission h = simp (lt-ltb 1 p h, or-true)
+
+-- no number is more than the three joined bit by bit
+pub or-left : (a b : ℕ) → a ≤ bitOr a b
+or-left a b = omega (arith, or-add-and a b, and-le-r a b)
+
+pub or-right : (a b : ℕ) → b ≤ bitOr a b
+or-right a b = omega (arith, or-add-and a b, and-le-l a b)
+
+pub isUnsuited-over : (s r u p : ℕ) → 1 < bitOr (bitOr r u) p → isUnsuited s r u p ≡ true
+isUnsuited-over s r u p h = go (ltb 1 r) (ltb 1 u) (ltb 1 p) refl refl refl
+  where
+    none : r ≤ 1 → u ≤ 1 → p ≤ 1 → bitOr (bitOr r u) p ≤ 1
+    none hr hu hp =
+        let e : bitOr (bitOr r u) p < 2 ^ 1 = or-lt 1 (bitOr r u) p (or-lt 1 r u (omega arith) (omega arith)) (omega arith) in omega arith
+
+    go : (x y z : Bool) → ltb 1 r ≡ x → ltb 1 u ≡ y → ltb 1 p ≡ z → isUnsuited s r u p ≡ true
+    go true y z e f g = isUnsuited-receive s r u p (ltb-true 1 r e)
+    go false true z e f g = isUnsuited-ucid s r u p (ltb-true 1 u f)
+    go false false true e f g = isUnsuited-permission s r u p (ltb-true 1 p g)
+    go false false false e f g = absurd (omega (arith, none (ltb-false 1 r e) (ltb-false 1 u f) (ltb-false 1 p g)))
 
 pub isUnsuited→mark : (s r u p : ℕ) → isUnsuited s r u p ≡ false → r ≤ 1
 isUnsuited→mark s r u p h = go (ltb 1 r) refl

@@ -45,29 +45,21 @@ pub(crate) fn wide_mark(fact: bool) -> u16
 // that state and a permission that it allows.
 const SUITED: u64 = 13651674617873152;
 
-// Whether a record is Idle or in no state, or has marks or a permission that its state has not: one look into `SUITED`.
+// Whether a record is Idle or in no state, or has marks or a permission that its state has not: one test that none of
+// the three numbers is over 1, and one look into `SUITED`.
 fn is_unsuited(state: u8, receiveon: u16, hasucid: u8, permission: u8) -> bool
     ensures { λ r. ⌜ r ≡ isUnsuited state receiveon hasucid permission ⌝ }
 {
+    let r = receiveon as u32;
+    let u = hasucid as u32;
+    let p = permission as u32;
     if 7 < state {
         return true;
     }
-    if 1 < receiveon {
+    if 1 < (r | u | p) {
         return true;
     }
-    if 1 < hasucid {
-        return true;
-    }
-    if 1 < permission {
-        return true;
-    }
-    suited_bit(
-        state as u32,
-        receiveon as u32,
-        hasucid as u32,
-        permission as u32,
-    )
-        == 0
+    suited_bit(state as u32, r, u, p) == 0
 }
 
 // The bit of `SUITED` for these four.

@@ -1,18 +1,30 @@
--- `modem::record::is_unsuited` gives `isUnsuited`: each return cites the law of its number; the last is the bit of the four.
+-- `modem::record::is_unsuited` gives `isUnsuited`: each return cites the law of its test; the last is the bit of the four.
 -- Trusts: nothing.
 use borrow.Author.Needs.{needs}
 use mathlib.Core.Path.{sym}
-use Rattle.modem.proofs.LawsIdle.{isUnsuited-state, isUnsuited-receive, isUnsuited-ucid, isUnsuited-permission}
+use native.Mathlib.Omega.{arith}
+use Rattle.modem.proofs.LawsIdle.{or-left, or-right, isUnsuited-state, isUnsuited-over}
+use lib.Bits.{bitOr}
 use Rattle.modem.proofs.record.is_unsuited.Statement.{statement}
 use Rattle.modem.proofs.record.is_unsuited.Tie as tie
+
+-- the test passed: none is over 1
+suited-bit-requires : tie.Need-suited-bit-requires
+suited-bit-requires c κs =
+    let x = c .before .before .args in
+    let l = or-left (x .receiveon) (x .hasucid) in
+    let k = or-right (x .receiveon) (x .hasucid) in
+    let n = or-left (bitOr (x .receiveon) (x .hasucid)) (x .permission) in
+    let o = or-right (bitOr (x .receiveon) (x .hasucid)) (x .permission) in
+    (omega arith, omega arith, omega arith, omega arith)
 
 pub is-unsuited-spec : {M : Type 1} → statement M
 is-unsuited-spec =
     tie.close
     (tie.spec
+    -- no state
     (λ c. sym (isUnsuited-state _ _ _ _ (c .if1 .taken)))
-    (λ c. sym (isUnsuited-receive _ _ _ _ (c .if2 .taken)))
-    (λ c. sym (isUnsuited-ucid _ _ _ _ (c .if3 .taken)))
-    (λ c. sym (isUnsuited-permission _ _ _ _ (c .if4 .taken)))
-    (λ c κs. search needs)
+    -- no mark, or no permission
+    (λ c. sym (isUnsuited-over _ _ _ _ (c .if2 .taken)))
+    suited-bit-requires
     (λ c. search needs))
