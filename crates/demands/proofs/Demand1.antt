@@ -44,8 +44,8 @@ use Rattle.elements.proofs.Laws.{Says, headAt-says}
 use Rattle.reader.specs.Read.{readTable}
 use Rattle.reader.proofs.Laws as laws
 use Rattle.reader.specs.declared.Verdict.the-variants as reading
-use Rattle.modem.specs.declared.Modem.{Modem}
-use Rattle.modem.specs.declared.Event.{Event}
+use Rattle.modem_record.specs.declared.Modem.{Modem}
+use Rattle.modem_rows.specs.declared.Event.{Event}
 use Rattle.modem.specs.declared.Answer.the-variants as modem
 use Rattle.modem.specs.Step.{steppedModem, nextModem}
 use Rattle.modem.proofs.LawsSending as sending

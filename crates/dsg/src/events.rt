@@ -3,9 +3,9 @@
 // `dsg_empty_modem`, `dsg_event`, `dsg_transmits` and `dsg_forwards`. An event is a number and four
 // arguments; one that names none only moves the clock.
 ghost use mathlib.Core.Path.{_≡_};
-ghost use Rattle.modem.specs.Record.{transmits, forwards, emptyModem};
+ghost use Rattle.modem_record.specs.Record.{transmits, forwards, emptyModem};
 ghost use Rattle.dsg.specs.Events.{eventStepped};
-use modem::Modem;
+use modem_record::Modem;
 
 // The number that an event is answered, 0 or the refusal, and the record after it.
 struct EventStepped {
@@ -48,7 +48,7 @@ pub extern "C" fn dsg_event(
 pub extern "C" fn dsg_transmits(modem: &Modem) -> bool
     ensures { λ r. ⌜ r ≡ transmits (now (modem .entry)) ⌝ }
 {
-    modem::transmits(*modem)
+    modem_record::transmits(*modem)
 }
 
 // Whether tunnels are forwarded.
@@ -56,7 +56,7 @@ pub extern "C" fn dsg_transmits(modem: &Modem) -> bool
 pub extern "C" fn dsg_forwards(modem: &Modem) -> bool
     ensures { λ r. ⌜ r ≡ forwards (now (modem .entry)) ⌝ }
 {
-    modem::forwards(*modem)
+    modem_record::forwards(*modem)
 }
 
 // An idle record.
@@ -64,5 +64,5 @@ pub extern "C" fn dsg_forwards(modem: &Modem) -> bool
 pub extern "C" fn dsg_empty_modem() -> Modem
     ensures { λ r. ⌜ r ≡ emptyModem ⌝ }
 {
-    modem::empty_modem()
+    modem_record::empty_modem()
 }

@@ -1,7 +1,5 @@
 -- Laws        what proofs, here and above, may know of the step and of an event's number
 pub mod Laws
--- LawsIdle    the test of a record, part by part
-pub mod LawsIdle
 -- LawsKept    what a well-kept record is, claim by claim
 pub mod LawsKept
 -- LawsRows    each row keeps it so
