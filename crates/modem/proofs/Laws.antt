@@ -61,6 +61,10 @@ cond-false : (t : Bool) → cond t false false ≡ false
 cond-false true = refl
 cond-false false = refl
 
+pub cond-zero : (t : Bool) → _≡_ {A = ℕ} (cond t 0 0) 0
+cond-zero true = refl
+cond-zero false = refl
+
 cond-and : (t u : Bool) → cond t (cond u true false) false ≡ t && u
 cond-and true true = refl
 cond-and true false = refl

@@ -5,7 +5,8 @@
 // All take any input. One refusal, 18, leaves the record as it was; a record that breaks the rules counts as Idle, so
 // every event but Start leaves it, too, as it was.
 ghost use mathlib.Core.Path.{_≡_};
-ghost use mathlib.Core.Bool.{cond};
+ghost use mathlib.Core.Bool.{cond, _&&_};
+ghost use lib.Dec.{ltb, eqb};
 ghost use Rattle.modem_rows.specs.Numbers.{eventOf};
 ghost use Rattle.modem.specs.Numbers.{gateOf, numberedStep};
 ghost use Rattle.modem.specs.Step.{answerOf, steppedModem};
@@ -35,18 +36,28 @@ pub struct Numbered {
     pub modem: Modem,
 }
 
+// Whether the numbers name a Start.
+fn is_start(kind: u8, a: u16) -> bool
+    ensures { λ r. ⌜ r ≡ (eqb kind 1 && ltb a 2) ⌝ }
+{
+    (kind == 1) & (a < 2)
+}
+
 // How an event is taken: 0 it acts, 1 it is ignored, 18 it is refused. In Idle, and where the record counts as Idle, only
-// Start acts, whatever the clock says.
+// Start acts, whatever the clock says. Whether it is a Start is asked only where another event would not act.
 fn gate(modem: Modem, clock: u32, kind: u8, a: u16) -> u8
     ensures { λ r. ⌜ r ≡ gateOf modem clock kind a ⌝ }
 {
-    if (kind == 1) & (a < 2) {
-        return 0;
-    }
     if modem_record::counts_idle(modem) {
+        if is_start(kind, a) {
+            return 0;
+        }
         return 1;
     }
     if clock::is_back(clock, modem.last) {
+        if is_start(kind, a) {
+            return 0;
+        }
         return 18;
     }
     0

@@ -111,7 +111,7 @@ fn is_held_over(on: u16, left: u32) -> bool
     65535000 < left * on as u32
 }
 
-// Whether a record is Idle or breaks a rule. The tests that a sound record passes cost a compare and a jump each.
+// Whether a record is Idle or breaks a rule. The order of the tests is the one that compiles to the fewest instructions.
 pub fn counts_idle(m: Modem) -> bool
     ensures { λ r. ⌜ r ≡ countsIdle m ⌝ }
 {
@@ -121,10 +121,10 @@ pub fn counts_idle(m: Modem) -> bool
     if m.tdsg2 == 0 {
         return true;
     }
-    if is_unsuited(m.state, m.receiveon, m.hasucid, m.permission) {
+    if is_late(m.state, m.permission, m.retryon, m.retry) {
         return true;
     }
-    if is_late(m.state, m.permission, m.retryon, m.retry) {
+    if is_unsuited(m.state, m.receiveon, m.hasucid, m.permission) {
         return true;
     }
     is_held_over(m.receiveon, m.receive)

@@ -8,8 +8,8 @@
 ghost use mathlib.Core.Path.{_≡_};
 ghost use mathlib.Core.Bool.{cond};
 ghost use Prim.Native.Nat.{_*_};
-ghost use Rattle.modem_record.specs.States.{isSending, isForwarding, isFour};
-ghost use Rattle.modem_record.specs.Record.{movedTo, allowed, defaulted, valued};
+ghost use Rattle.modem_record.specs.States.{ranging, oneWay, isSending, isForwarding, isFour, isPermitted, loaded, retryOf, ucidOf};
+ghost use Rattle.modem_record.specs.Record.{movedTo, moved, allowed, defaulted, valued};
 ghost use Rattle.modem_rows.specs.Numbers.{startOf, upOf, eventOf};
 ghost use Rattle.modem_rows.specs.Events.{startRow, lockedRow, emptyRow, tableEvent, heardRow, tickEvent, enableEvent, lostRow, disableEvent, huntRow, eventOn};
 use modem_record::CHECKING;
@@ -267,47 +267,45 @@ fn value(m: Modem, a: u16, b: u16, c: u16, d: u16) -> Modem
     }
 }
 
-// Table accepted: the values first, then the receive timer from the new Tdsg2, and out of Checking.
+// Out of Checking, with the values of a table: the receive timer from its Tdsg2.
+fn leave_checking(n: Modem) -> Modem
+    ensures { λ r. ⌜ r ≡ moved n (cond (isPermitted n) ranging oneWay) (ucidOf n) (loaded (n .tdsg2)) (retryOf n) ⌝ }
+{
+    let receive = milliseconds(n.tdsg2);
+    if n.permission == 1 {
+        return go(
+            n,
+            RANGING,
+            n.hasucid,
+            n.ucid,
+            1,
+            receive,
+            n.retryon,
+            n.retry,
+        );
+    }
+    go(
+        n,
+        ONE_WAY,
+        n.hasucid,
+        n.ucid,
+        1,
+        receive,
+        n.retryon,
+        n.retry,
+    )
+}
+
+// Table accepted: the values first, then the receive timer from the new Tdsg2.
 fn accept(m: Modem, a: u16, b: u16, c: u16, d: u16) -> Modem
     ensures { λ r. ⌜ r ≡ tableEvent a b c d m ⌝ }
 {
     let n = value(m, a, b, c, d);
-    let receive = milliseconds(n.tdsg2);
     if m.state == CHECKING {
-        if m.permission == 1 {
-            return go(
-                n,
-                RANGING,
-                m.hasucid,
-                m.ucid,
-                1,
-                receive,
-                m.retryon,
-                m.retry,
-            );
-        }
-        return go(
-            n,
-            ONE_WAY,
-            m.hasucid,
-            m.ucid,
-            1,
-            receive,
-            m.retryon,
-            m.retry,
-        );
+        return leave_checking(n);
     }
     if is_forwarding(m) {
-        return go(
-            n,
-            m.state,
-            m.hasucid,
-            m.ucid,
-            1,
-            receive,
-            m.retryon,
-            m.retry,
-        );
+        return hear(n);
     }
     keep(m)
 }

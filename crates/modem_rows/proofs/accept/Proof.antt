@@ -1,4 +1,4 @@
--- `modem_rows::accept` gives `tableEvent`: the receive timer is loaded from the record that `value` ensures.
+-- `modem_rows::accept` gives `tableEvent`: the rows act on the record that `value` ensures.
 -- Trusts: nothing.
 use borrow.Author.Needs.{needs}
 use borrow.Author.Tests.{eq-eqb, ne-eqb}
@@ -13,16 +13,12 @@ accept-spec =
     (tie.spec
     (λ c κs. search needs)
     (λ c κs. search needs)
-    (λ c κs. search needs)
-    -- Checking, permitted
-    (λ c. rw (c .go .ensures, c .before .before .before .before .before .milliseconds .ensures, c .before .before .before .before .before .before .value .ensures, eq-eqb _ _ (c .before .before .before .if1 .taken), eq-eqb _ _ (c .before .if2 .taken)))
-    (λ c κs. search needs)
-    -- Checking, not permitted
-    (λ c. rw (c .go2 .ensures, c .before .before .before .before .before .milliseconds .ensures, c .before .before .before .before .before .before .value .ensures, eq-eqb _ _ (c .before .before .before .if1 .taken), ne-eqb _ _ (c .before .if2 .left)))
+    -- Checking
+    (λ c. rw (c .leave-checking .ensures, c .before .before .before .value .ensures, eq-eqb _ _ (c .before .if1 .taken)))
     (λ c κs. search needs)
     (λ c κs. search needs)
     -- a forwarding state
-    (λ c. rw (c .go3 .ensures, c .before .before .before .before .before .milliseconds .ensures, c .before .before .before .before .before .before .value .ensures, ne-eqb _ _ (c .before .before .before .if1 .left), ← c .before .before .is-forwarding .ensures, c .before .if3 .taken))
+    (λ c. rw (c .hear .ensures, c .before .before .before .before .before .value .ensures, ne-eqb _ _ (c .before .before .before .if1 .left), ← c .before .before .is-forwarding .ensures, c .before .if2 .taken))
     (λ c κs. search needs)
     -- elsewhere
-    (λ c. rw (c .keep .ensures, ne-eqb _ _ (c .before .before .before .if1 .left), ← c .before .before .is-forwarding .ensures, c .before .if3 .left)))
+    (λ c. rw (c .keep .ensures, ne-eqb _ _ (c .before .before .before .if1 .left), ← c .before .before .is-forwarding .ensures, c .before .if2 .left)))
