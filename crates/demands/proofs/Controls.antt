@@ -28,8 +28,8 @@ use Rattle.choice.specs.declared.Choice.{Choice}
 use Rattle.choice.specs.declared.Choice.the-variants as choice
 use Rattle.choice.specs.Best.{comesBefore, anyOf, firstPlace, isBest, bestPlace}
 use Rattle.choice.specs.Choose.{isClient, listsClient, admitsUcid, fitsClient, chosenPlace, choiceOf}
-use Rattle.modem.specs.declared.Modem.{Modem}
-use Rattle.modem.specs.declared.Event.{Event}
+use Rattle.modem_record.specs.declared.Modem.{Modem}
+use Rattle.modem_rows.specs.declared.Event.{Event}
 use Rattle.modem.specs.declared.Stepped.{Stepped}
 use Rattle.modem.specs.Step.{steppedModem}
 use Rattle.modem.proofs.Controls as modem

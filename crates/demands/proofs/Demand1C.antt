@@ -38,7 +38,7 @@ use Rattle.tunnel.specs.declared.Verdict as frames
 use Rattle.tunnel.specs.declared.Verdict.the-variants as verdict
 use Rattle.tunnel.specs.Judge.{verdictOf}
 use Rattle.prepared.specs.Prepared.{preparedVerdict}
-use Rattle.modem.specs.declared.Modem.{Modem}
+use Rattle.modem_record.specs.declared.Modem.{Modem}
 use Rattle.dsg_pieces.specs.Bodies.{completeOf, collectedOf, CollectAfter, collectAfter, receivedOf, ReceiveAfter, receiveAfter}
 use Rattle.dsg_tables.specs.Tables.{readStepped, listedAs, listingAs}
 use Rattle.dsg_frames.specs.Frames.{clientOf, ucidOf, choiceFor, verdictAs, verdictFor}

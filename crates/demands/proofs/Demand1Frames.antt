@@ -30,12 +30,13 @@ use Rattle.matching.specs.Entry.{matchesEntry}
 use Rattle.matching.specs.Match.{wrongLength, addressAt}
 use Rattle.tunnel.specs.Judge.{matchPlace, ruleVerdict, choiceVerdict, verdictOf}
 use Rattle.prepared.specs.Prepared.{entriesOf, preparedVerdict}
-use Rattle.modem.specs.declared.Modem.{Modem}
-use Rattle.modem.specs.declared.Event.{Event}
+use Rattle.modem_record.specs.declared.Modem.{Modem}
+use Rattle.modem_rows.specs.declared.Event.{Event}
 use Rattle.modem.specs.declared.Answer.{Answer}
 use Rattle.modem.specs.declared.Answer.the-variants as modem
 use Rattle.modem.specs.Step.{answerNumber, steppedModem, nextModem}
-use Rattle.modem.specs.Numbers.{eventOf, numberedStep}
+use Rattle.modem_rows.specs.Numbers.{eventOf}
+use Rattle.modem.specs.Numbers.{numberedStep}
 use Rattle.modem.proofs.LawsSending as sending
 
 -- ---- choosing

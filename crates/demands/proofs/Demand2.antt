@@ -47,20 +47,24 @@ use Rattle.tunnel.proofs.payload.Reads as payload
 use Rattle.preparing.proofs.prepare_tunnel.Reads as prepare_tunnel
 use Rattle.prepared.proofs.judge_prepared.Reads as judge_prepared
 use Rattle.prepared.proofs.judge_lent.Reads as judge_lent
-use Rattle.modem.specs.declared.Modem.{Modem}
+use Rattle.modem_record.specs.declared.Modem.{Modem}
 use Rattle.modem.specs.declared.Answer.{Answer}
 use Rattle.modem.specs.declared.Stepped.{Stepped}
-use Rattle.modem.specs.Record as kept
-use Rattle.modem.specs.Record.{emptyModem}
+use Rattle.modem_record.specs.Record as kept
+use Rattle.modem_record.specs.Record.{emptyModem}
 use Rattle.modem.specs.Step.{steppedModem}
 use Rattle.modem.specs.Numbers.{numberedStep}
 use Rattle.modem.proofs.step_modem.Reads as step_modem
 use Rattle.modem.proofs.step_modem.Statement as step_modem′
 use Rattle.modem.proofs.step_modem.Met as step_modem″
 use Rattle.modem.proofs.step_numbered.Reads as step_numbered
-use Rattle.modem.proofs.transmits.Reads as transmits
-use Rattle.modem.proofs.forwards.Reads as forwards
-use Rattle.modem.proofs.empty_modem.Reads as empty_modem
+use Rattle.modem_record.proofs.transmits.Reads as transmits
+use Rattle.modem_record.proofs.forwards.Reads as forwards
+use Rattle.modem_record.proofs.empty_modem.Reads as empty_modem
+use Rattle.modem_record.proofs.counts_idle.Reads as counts_idle
+use Rattle.modem_rows.specs.Numbers.{eventOf}
+use Rattle.modem_rows.specs.Events.{eventOn}
+use Rattle.modem_rows.proofs.act.Reads as act
 use Rattle.modem.proofs.on_event as on_event
 use Rattle.modem.proofs.on_event.Statement as on_event′
 use Rattle.modem.proofs.on_event.Met as on_event″
@@ -171,6 +175,13 @@ forwards-gives κs a x s h = h
 
 pub empty_modem-gives : (κs : Lfts 0) → Gives answer (empty_modem.Post κs) (λ a. emptyModem)
 empty_modem-gives κs a x s h = h
+
+pub counts_idle-gives : (κs : Lfts 0) → Gives answer (counts_idle.Post κs) (λ a. kept.countsIdle (a .0))
+counts_idle-gives κs a x s h = h
+
+pub act-gives : (κs : Lfts 0) → Gives answer (act.Post κs)
+    (λ a. eventOn (eventOf (a .1 .0) (a .1 .1 .0) (a .1 .1 .1 .0) (a .1 .1 .1 .1 .0) (a .1 .1 .1 .1 .1 .0)) (a .0))
+act-gives κs a x s h = h
 
 -- the same on a record that is lent: walked by hand
 abbrev pub OnEvent : (κs : Lfts 1) → Args on_event.signature κs → Res on_event.signature κs → AtExit on_event.ended κs → Type 0

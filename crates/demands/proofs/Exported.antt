@@ -14,7 +14,7 @@ use Rattle.table.specs.Table.{emptyTable}
 use Rattle.collector.specs.Step.{emptyCollection}
 use Rattle.prepared.specs.Prepared.{preparedVerdict}
 use Rattle.preparing.specs.Preparing.{preparedTunnel}
-use Rattle.modem.specs.Record.{transmits, forwards, emptyModem}
+use Rattle.modem_record.specs.Record.{transmits, forwards, emptyModem}
 use Rattle.dsg_pieces.specs.Bodies.{CollectAfter, collectAfter, ReceiveAfter, receiveAfter}
 use Rattle.dsg_tables.specs.declared.ReadStepped.{ReadStepped}
 use Rattle.dsg_tables.specs.Tables.{readStepped, ListAfter, listAfter, bodyAfter}

@@ -26,11 +26,13 @@ use Rattle.tunnel.proofs.payload.Reads as payload
 use Rattle.preparing.proofs.prepare_tunnel.Reads as prepare_tunnel
 use Rattle.prepared.proofs.judge_prepared.Reads as judge_prepared
 use Rattle.prepared.proofs.judge_lent.Reads as judge_lent
-use Rattle.modem.proofs.empty_modem.Reads as empty_modem
+use Rattle.modem_record.proofs.empty_modem.Reads as empty_modem
+use Rattle.modem_record.proofs.counts_idle.Reads as counts_idle
+use Rattle.modem_rows.proofs.act.Reads as act
 use Rattle.modem.proofs.step_modem.Reads as step_modem
 use Rattle.modem.proofs.step_numbered.Reads as step_numbered
-use Rattle.modem.proofs.transmits.Reads as transmits
-use Rattle.modem.proofs.forwards.Reads as forwards
+use Rattle.modem_record.proofs.transmits.Reads as transmits
+use Rattle.modem_record.proofs.forwards.Reads as forwards
 use Rattle.receiver.specs.Receive.{told, Had}
 use Rattle.receiver.proofs.receive.Reads as receive
 
@@ -92,6 +94,12 @@ judge_lent-one κs = only (demand2.judge_lent-gives κs)
 
 pub empty_modem-one : (κs : Lfts 0) → One answer (empty_modem.Post κs)
 empty_modem-one κs = only (demand2.empty_modem-gives κs)
+
+pub counts_idle-one : (κs : Lfts 0) → One answer (counts_idle.Post κs)
+counts_idle-one κs = only (demand2.counts_idle-gives κs)
+
+pub act-one : (κs : Lfts 0) → One answer (act.Post κs)
+act-one κs = only (demand2.act-gives κs)
 
 pub step_modem-one : (κs : Lfts 0) → One answer (step_modem.Post κs)
 step_modem-one κs = only (demand2.step_modem-gives κs)

@@ -21,9 +21,9 @@ use denote.Ref.{now}
 use denote.Builtin.{RefOf, bool}
 use denote.Triple.Clauses.{Ended, Clauses, closing}
 use denote.Struct.Laws as LL
-use Rattle.modem.specs.declared.Modem.{Modem}
-use Rattle.modem.proofs.Modem as D0
-use Rattle.modem.proofs.Modem.Laws as D0′
+use Rattle.modem_record.specs.declared.Modem.{Modem}
+use Rattle.modem_record.proofs.Modem as D0
+use Rattle.modem_record.proofs.Modem.Laws as D0′
 
 -- the record as a local and behind a reference
 abbrev record-type : List Ty → Ty

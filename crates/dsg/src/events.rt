@@ -3,10 +3,10 @@
 // `dsg_empty_modem`, `dsg_event`, `dsg_transmits` and `dsg_forwards`. An event is a number and four
 // arguments; one that names none only moves the clock.
 ghost use mathlib.Core.Path.{_≡_};
-ghost use Rattle.modem.specs.Record.{transmits, forwards, emptyModem};
+ghost use Rattle.modem_record.specs.Record.{transmits, forwards, emptyModem};
 ghost use Rattle.dsg_events.specs.Events.{eventStepped};
 use dsg_events::event_value;
-use modem::Modem;
+use modem_record::Modem;
 
 // One event for a record that the host lends.
 #[no_mangle]
@@ -31,7 +31,7 @@ pub extern "C" fn dsg_event(
 pub extern "C" fn dsg_transmits(modem: &Modem) -> bool
     ensures { λ r. ⌜ r ≡ transmits (now (modem .entry)) ⌝ }
 {
-    modem::transmits(*modem)
+    modem_record::transmits(*modem)
 }
 
 // Whether tunnels are forwarded.
@@ -39,7 +39,7 @@ pub extern "C" fn dsg_transmits(modem: &Modem) -> bool
 pub extern "C" fn dsg_forwards(modem: &Modem) -> bool
     ensures { λ r. ⌜ r ≡ forwards (now (modem .entry)) ⌝ }
 {
-    modem::forwards(*modem)
+    modem_record::forwards(*modem)
 }
 
 // An idle record.
@@ -47,5 +47,5 @@ pub extern "C" fn dsg_forwards(modem: &Modem) -> bool
 pub extern "C" fn dsg_empty_modem() -> Modem
     ensures { λ r. ⌜ r ≡ emptyModem ⌝ }
 {
-    modem::empty_modem()
+    modem_record::empty_modem()
 }

@@ -2,9 +2,9 @@
 --
 --   eventStepped m clock event a b c d   the number of the answer, 0 or 18, and the record after the event of that number
 --
--- Which event a number names, and what becomes of any other, is `eventOf` of crate modem. Trusts: nothing.
+-- Which event a number names, and what becomes of any other, is `eventOf` of crate modem_rows. Trusts: nothing.
 use Prim.Native.Nat.{ℕ}
-use Rattle.modem.specs.declared.Modem.{Modem}
+use Rattle.modem_record.specs.declared.Modem.{Modem}
 use Rattle.modem.specs.declared.Numbered.{Numbered}
 use Rattle.modem.specs.Numbers.{numberedStep}
 use Rattle.dsg_events.specs.declared.EventStepped.{EventStepped}

@@ -3,7 +3,7 @@
 // `event_value`. An event is a number and four arguments; one that names none only moves the clock.
 ghost use mathlib.Core.Path.{_≡_};
 ghost use Rattle.dsg_events.specs.Events.{eventStepped};
-use modem::Modem;
+use modem_record::Modem;
 
 // The number that an event is answered, 0 or the refusal, and the record after it.
 pub struct EventStepped {

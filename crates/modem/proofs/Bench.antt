@@ -5,10 +5,10 @@
 --   clock-back           the same two the other way round are refused with 18, and the record stays
 -- Trusts: nothing.
 use mathlib.Core.Path.{_≡_, refl}
-use Rattle.modem.specs.declared.Modem.{Modem}
-use Rattle.modem.specs.declared.Event.the-variants.{Tick}
-use Rattle.modem.specs.Record.{isBroken, countsIdle}
-use Rattle.modem.specs.Events.{tickEvent, restRow, wakeRow, retryRow, eventOn}
+use Rattle.modem_record.specs.declared.Modem.{Modem}
+use Rattle.modem_rows.specs.declared.Event.the-variants.{Tick}
+use Rattle.modem_record.specs.Record.{isBroken, countsIdle}
+use Rattle.modem_rows.specs.Events.{tickEvent, restRow, wakeRow, retryRow, eventOn}
 use Rattle.modem.specs.Step.{clockStep, isBack, fallen, isStart, answerNumber, steppedModem}
 use Prim.Native.Nat.{ℕ}
 

@@ -11,9 +11,9 @@ use mathlib.Core.Bool.{Bool, true, false, cond, not, _&&_, _||_, true≢false}
 use native.Mathlib.Omega.{arith}
 use lib.Dec.{ltb, eqb}
 use borrow.Author.Tests.{ltb-false, eqb-true, not-true, not-false, le-ltb, eq-eqb}
-use Rattle.modem.specs.declared.Modem.{Modem}
-use Rattle.modem.specs.States.{Marked, isAt, receiveOf, retryOf, loaded}
-use Rattle.modem.specs.Record.{receiveMark, retryMark, ucidMark, leastPermission, isOver, isSpoilt, isBroken, wellKept, countsIdle, moved}
+use Rattle.modem_record.specs.declared.Modem.{Modem}
+use Rattle.modem_record.specs.States.{Marked, isAt, receiveOf, retryOf, loaded}
+use Rattle.modem_record.specs.Record.{receiveMark, retryMark, ucidMark, leastPermission, isOver, isSpoilt, isBroken, wellKept, countsIdle, moved}
 use Rattle.modem.specs.Step.{clockStep, fallen, aged}
 
 pub record Kept (m : Modem) : Type 0 where

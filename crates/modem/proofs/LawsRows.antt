@@ -10,10 +10,10 @@ use mathlib.Core.Bool.{Bool, true, false, cond, _&&_, _||_}
 use mathlib.Core.Logic.{_⊎_, inl, inr}
 use native.Mathlib.Omega.{arith}
 use borrow.Author.Tests.{eqb-true, eq-eqb, ne-eqb}
-use Rattle.modem.specs.declared.Modem.{Modem}
-use Rattle.modem.specs.States.{isAt, isForwarding, isSending, isFour, isPermitted, isAtZero, off, none, known, loaded, receiveOf, retryOf, ucidOf}
-use Rattle.modem.specs.Record.{receiveMark, moved}
-use Rattle.modem.specs.Events.{lockedRow, emptyRow, tableRow, heardRow, retryRow, upRow, lostRow, restRow, huntRow, wakeRow}
+use Rattle.modem_record.specs.declared.Modem.{Modem}
+use Rattle.modem_record.specs.States.{isAt, isForwarding, isSending, isFour, isPermitted, isAtZero, off, none, known, loaded, receiveOf, retryOf, ucidOf}
+use Rattle.modem_record.specs.Record.{receiveMark, moved}
+use Rattle.modem_rows.specs.Events.{lockedRow, emptyRow, tableRow, heardRow, retryRow, upRow, lostRow, restRow, huntRow, wakeRow}
 use Rattle.modem.proofs.Laws.{and-left, and-right}
 use Rattle.modem.proofs.LawsKept.{Kept, moved-kept, loaded-fits}
 

@@ -12,15 +12,15 @@ use mathlib.Core.Path.{_≡_, refl, sym, _∙_, ap, subst}
 use mathlib.Core.Bool.{Bool, true, false, cond, not, _&&_}
 use native.Mathlib.Omega.{arith}
 use borrow.Author.Tests.{not-true}
-use Rattle.modem.specs.declared.Modem.{Modem}
+use Rattle.modem_record.specs.declared.Modem.{Modem}
 use Rattle.modem.specs.declared.Stepped.{Stepped}
 use Rattle.modem.specs.declared.Answer.{Answer}
 use Rattle.modem.specs.declared.Answer.the-variants.{Done, ClockBack}
-use Rattle.modem.specs.declared.Event.{Event}
-use Rattle.modem.specs.declared.Event.the-variants.{Disable}
-use Rattle.modem.specs.States.{isSending, isForwarding}
-use Rattle.modem.specs.Record.{countsIdle, transmits, forwards}
-use Rattle.modem.specs.Events.{disableRow, disableEvent, eventOn}
+use Rattle.modem_rows.specs.declared.Event.{Event}
+use Rattle.modem_rows.specs.declared.Event.the-variants.{Disable}
+use Rattle.modem_record.specs.States.{isSending, isForwarding}
+use Rattle.modem_record.specs.Record.{countsIdle, transmits, forwards}
+use Rattle.modem_rows.specs.Events.{disableRow, disableEvent, eventOn}
 use Rattle.modem.specs.Step.{isBack, isStart, aged, answerNumber, steppedModem, nextModem}
 use Rattle.modem.proofs.Laws.{and-left, and-right, steppedModem-ignored, steppedModem-back, steppedModem-taken}
 use Rattle.modem.proofs.LawsKept.{Kept, countsIdle→Kept}

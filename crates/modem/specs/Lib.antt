@@ -1,5 +1,2 @@
-pub mod States
-pub mod Record
-pub mod Events
 pub mod Step
 pub mod Numbers

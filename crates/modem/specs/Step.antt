@@ -10,14 +10,14 @@
 use Prim.Native.Nat.{ℕ, _+_, _-_, _%_, _^_}
 use mathlib.Core.Bool.{Bool, true, false, cond, not, _&&_}
 use lib.Dec.{leb, eqb}
-use Rattle.modem.specs.declared.Modem.{Modem}
-use Rattle.modem.specs.declared.Event.{Event}
-use Rattle.modem.specs.declared.Event.the-variants.{Start, Locked, ScanEmpty, TableAccepted, Packet, Tick, Enable, UpstreamUp, UpstreamLost, Disable, Hunt, DownstreamLost, Unnamed}
+use Rattle.modem_record.specs.declared.Modem.{Modem}
+use Rattle.modem_rows.specs.declared.Event.{Event}
+use Rattle.modem_rows.specs.declared.Event.the-variants.{Start, Locked, ScanEmpty, TableAccepted, Packet, Tick, Enable, UpstreamUp, UpstreamLost, Disable, Hunt, DownstreamLost, Unnamed}
 use Rattle.modem.specs.declared.Answer.{Answer}
 use Rattle.modem.specs.declared.Answer.the-variants.{Done, ClockBack}
 use Rattle.modem.specs.declared.Stepped.{Stepped}
-use Rattle.modem.specs.Record.{countsIdle}
-use Rattle.modem.specs.Events.{eventOn}
+use Rattle.modem_record.specs.Record.{countsIdle}
+use Rattle.modem_rows.specs.Events.{eventOn}
 
 abbrev pub clockStep : ℕ → ℕ → ℕ
 clockStep now last = (now + (2 ^ 32 - last)) % 2 ^ 32

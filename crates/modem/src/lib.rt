@@ -1,81 +1,19 @@
-// The modem record and its events (document 01, "Modem record").
+// One event on a modem record (document 01, "Modem record").
 //
 // `step_modem` takes a record by value and gives the answer and the next record; `on_event` is the same on a record
 // that the host lends; `step_numbered` takes the event by its number, as C names it, and is the one that does the work.
-// `transmits` and `forwards` say what a host asks of a record, `empty_modem` is an idle one to begin with. All take any
-// input. One refusal, 18, leaves the record as it was; a record that breaks the rules counts as Idle, so every event
-// but Start leaves it, too, as it was.
+// All take any input. One refusal, 18, leaves the record as it was; a record that breaks the rules counts as Idle, so
+// every event but Start leaves it, too, as it was.
 ghost use mathlib.Core.Path.{_≡_};
-ghost use Rattle.modem.specs.Record.{transmits, forwards, emptyModem};
-ghost use Rattle.modem.specs.Numbers.{eventOf, numberedStep};
+ghost use mathlib.Core.Bool.{cond, _&&_};
+ghost use lib.Dec.{ltb, eqb};
+ghost use Rattle.modem_rows.specs.Numbers.{eventOf};
+ghost use Rattle.modem.specs.Numbers.{gateOf, numberedStep};
 ghost use Rattle.modem.specs.Step.{answerOf, steppedModem};
+use modem_record::Modem;
+use modem_rows::Event;
 
-mod record;
-mod rows;
-
-// The numbers of the states. Any other number breaks a record.
-pub const IDLE: u8 = 0;
-
-pub const SCANNING: u8 = 1;
-
-pub const CHECKING: u8 = 2;
-
-pub const ONE_WAY: u8 = 3;
-
-pub const RANGING: u8 = 4;
-
-pub const TWO_WAY: u8 = 5;
-
-pub const RESTING: u8 = 6;
-
-// The modem record. Times in milliseconds, timer values in seconds. A mark (`receiveon`, `retryon`, `hasucid`) is 1
-// where the value it belongs to counts, 0 where it does not; permission is 1 or 0. The order leaves no padding.
-#[repr(C)]
-pub struct Modem {
-    pub last: u32,
-    pub receive: u32,
-    pub retry: u32,
-    pub tdsg1: u16,
-    pub tdsg2: u16,
-    pub tdsg3: u16,
-    pub tdsg4: u16,
-    pub receiveon: u16,
-    pub retryon: u16,
-    pub state: u8,
-    pub permission: u8,
-    pub hasucid: u8,
-    pub ucid: u8,
-}
-
-// What happens to a modem, in the order of the table.
-pub enum Event {
-    // Begin anew, with or without permission to transmit.
-    Start(bool),
-    // A channel was found.
-    Locked,
-    // No channel was found.
-    ScanEmpty,
-    // A table was read; its Tdsg1 to Tdsg4.
-    TableAccepted(u16, u16, u16, u16),
-    // A packet came through a tunnel.
-    Packet,
-    // Time has passed: the only event at which a timer acts.
-    Tick,
-    // Transmitting is permitted from now on.
-    Enable,
-    // The return path works, on this UCID.
-    UpstreamUp(u8),
-    // The return path is gone.
-    UpstreamLost,
-    // Transmitting is forbidden from now on.
-    Disable,
-    // The client asks for another channel.
-    Hunt,
-    // The channel is gone.
-    DownstreamLost,
-    // No event of the table: it only moves the clock and the timers.
-    Unnamed,
-}
+mod clock;
 
 // What an event is answered.
 pub enum Answer {
@@ -98,64 +36,57 @@ pub struct Numbered {
     pub modem: Modem,
 }
 
-// An idle record, with the default timer values.
-pub fn empty_modem() -> Modem
-    ensures { λ r. ⌜ r ≡ emptyModem ⌝ }
+// Whether the numbers name a Start.
+fn is_start(kind: u8, a: u16) -> bool
+    ensures { λ r. ⌜ r ≡ (eqb kind 1 && ltb a 2) ⌝ }
 {
-    Modem {
-        last: 0,
-        receive: 0,
-        retry: 0,
-        tdsg1: 2,
-        tdsg2: 600,
-        tdsg3: 300,
-        tdsg4: 1800,
-        receiveon: 0,
-        retryon: 0,
-        state: IDLE,
-        permission: 0,
-        hasucid: 0,
-        ucid: 0,
+    (kind == 1) & (a < 2)
+}
+
+// How an event is taken: 0 it acts, 1 it is ignored, 18 it is refused. In Idle, and where the record counts as Idle, only
+// Start acts, whatever the clock says. Whether it is a Start is asked only where another event would not act.
+fn gate(modem: Modem, clock: u32, kind: u8, a: u16) -> u8
+    ensures { λ r. ⌜ r ≡ gateOf modem clock kind a ⌝ }
+{
+    if modem_record::counts_idle(modem) {
+        if is_start(kind, a) {
+            return 0;
+        }
+        return 1;
     }
+    if clock::is_back(clock, modem.last) {
+        if is_start(kind, a) {
+            return 0;
+        }
+        return 18;
+    }
+    0
 }
 
-// Whether the transmitter is on.
-pub fn transmits(modem: Modem) -> bool
-    ensures { λ r. ⌜ r ≡ transmits modem ⌝ }
-{
-    !record::counts_idle(modem) & record::is_sending(modem)
-}
-
-// Whether tunnels are forwarded.
-pub fn forwards(modem: Modem) -> bool
-    ensures { λ r. ⌜ r ≡ forwards modem ⌝ }
-{
-    !record::counts_idle(modem) & record::is_forwarding(modem)
-}
-
-// One event, by its number (specs/Numbers.antt) and what it carries. In Idle, and where the record counts as Idle, only
-// Start is taken; a clock that went back is refused; else the clock and the timers move, and then the event acts.
+// One event, by its number (specs/Numbers.antt of modem_rows) and what it carries. Where it acts, the clock and the
+// timers move first.
 pub fn step_numbered(modem: Modem, clock: u32, kind: u8, a: u16, b: u16, c: u16, d: u16) -> Numbered
     ensures { λ r. ⌜ r ≡ numberedStep modem clock kind a b c d ⌝ }
 {
-    if (kind == 1) & (a < 2) {
-        let fresh = rows::start(clock, a == 1);
+    let g = gate(modem, clock, kind, a);
+    if g == 0 {
+        let next = modem_rows::act(clock::age(modem, clock), kind, a, b, c, d);
         return Numbered {
             answer: 0,
-            modem: fresh,
+            modem: next,
         };
     }
-    if record::counts_idle(modem) {
-        return Numbered { answer: 0, modem };
-    }
-    if record::is_back(clock, modem.last) {
+    if g == 18 {
         return Numbered { answer: 18, modem };
     }
-    let next = rows::act(record::age(modem, clock), kind, a, b, c, d);
-    Numbered {
-        answer: 0,
-        modem: next,
-    }
+    Numbered { answer: 0, modem }
+}
+
+// A mark for a fact.
+fn wide_mark(fact: bool) -> u16
+    ensures { λ r. ⌜ r ≡ cond fact 1 0 ⌝ }
+{
+    if fact { 1 } else { 0 }
 }
 
 // The number of an event and what it carries.
@@ -186,7 +117,7 @@ fn numbers_of(event: Event) -> Carried
 {
     match event {
         Event::Start(permitted) => {
-            let a = record::wide_mark(permitted);
+            let a = wide_mark(permitted);
             Carried {
                 kind: 1,
                 a,

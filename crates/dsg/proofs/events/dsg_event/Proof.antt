@@ -12,9 +12,9 @@ use Rattle.dsg.proofs.Walk.{onEntry, Meets, tripleOf, Contract, Triple,
 use Rattle.dsg.proofs.Walk.{walkOf, AllGo, goes-none, goes-ref, Walks, ends-at, walked, walk-meets, yes}
 use denote.Struct.Laws as LL
 use Rattle.dsg_events.specs.Events.{eventStepped}
-use Rattle.modem.specs.declared.Modem.{Modem}
-use Rattle.modem.proofs.Modem as D0
-use Rattle.modem.proofs.Modem.Laws as D0′
+use Rattle.modem_record.specs.declared.Modem.{Modem}
+use Rattle.modem_record.proofs.Modem as D0
+use Rattle.modem_record.proofs.Modem.Laws as D0′
 use Rattle.dsg_events.specs.declared.EventStepped.{EventStepped}
 use Rattle.dsg_events.proofs.EventStepped as D1
 use Rattle.dsg_events.proofs.EventStepped.Laws as D1′

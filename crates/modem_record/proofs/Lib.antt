@@ -1,0 +1,2 @@
+-- LawsIdle    the test of a record, part by part
+pub mod LawsIdle

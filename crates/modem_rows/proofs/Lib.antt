@@ -1,0 +1,1 @@
+-- The proofs of the rows stand beside this file, one folder for each function; they need no law of their own.
