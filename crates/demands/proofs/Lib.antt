@@ -5,6 +5,7 @@
 -- OneAnswer: every contract admits one answer.
 -- Starred: the starred examples, one list under one theorem.      Listed: the example of dcdlist.
 -- Sentences: sentences of document 01 that follow from the definitions.
+-- LawsOrder: the rules and their numbers stand in the table in byte order.
 -- Silence: after Disable the transmitter stays off.      Controls: wrong programs refuted.
 pub mod Contract
 pub mod Parts
@@ -15,5 +16,6 @@ pub mod OneAnswer
 pub mod Starred
 pub mod Listed
 pub mod Sentences
+pub mod LawsOrder
 pub mod Silence
 pub mod Controls
