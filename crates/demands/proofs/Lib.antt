@@ -5,7 +5,9 @@
 -- OneAnswer: every contract admits one answer.
 -- Starred: the starred examples, one list under one theorem.      Listed: the example of dcdlist.
 -- Sentences: sentences of document 01 that follow from the definitions.
--- LawsOrder: the rules and their numbers stand in the table in byte order.
+-- LawsOrder: the rules and their numbers stand in the table in byte order.      LawsAscend: places ascend.
+-- LawsRoom: a rule that passed its tests names eight at most.      LawsSearch: what the search for a lone number finds.
+-- Lone: refusal 15 stands at the first 50.6 that no classifier answers.
 -- Silence: after Disable the transmitter stays off.      Controls: wrong programs refuted.
 pub mod Contract
 pub mod Parts
@@ -17,5 +19,9 @@ pub mod Starred
 pub mod Listed
 pub mod Sentences
 pub mod LawsOrder
+pub mod LawsAscend
+pub mod LawsRoom
+pub mod LawsSearch
+pub mod Lone
 pub mod Silence
 pub mod Controls
