@@ -7,6 +7,7 @@
 -- Sentences: sentences of document 01 that follow from the definitions.
 -- LawsOrder: the rules and their numbers stand in the table in byte order.      LawsAscend: places ascend.
 -- LawsRoom: a rule that passed its tests names eight at most.      LawsSearch: what the search for a lone number finds.
+-- LawsStand: where its number stands.      LawsReached: where reading comes to 15.
 -- Lone: refusal 15 stands at the first 50.6 that no classifier answers.
 -- Silence: after Disable the transmitter stays off.      Controls: wrong programs refuted.
 pub mod Contract
@@ -22,6 +23,8 @@ pub mod LawsOrder
 pub mod LawsAscend
 pub mod LawsRoom
 pub mod LawsSearch
+pub mod LawsStand
+pub mod LawsReached
 pub mod Lone
 pub mod Silence
 pub mod Controls
