@@ -1,0 +1,75 @@
+-- Lone: refusal 15 stands at the first 50.6 in byte order that no classifier answers (document 01, "Refusal numbers").
+--
+--   rulePlaces msg            where the top-level 50s stand; namedPlaces msg p, of LawsStand, is where the 50.6 of the 50 at p stand
+--   isCarried msg at          whether a classifier of the message's table carries the number of the 50.6 at `at`
+--   FirstUnanswered msg off   at `off` stands a 50.6 of a top-level 50 and no classifier carries its number; of every 50.6 at a smaller
+--                             offset, in whatever top-level 50, a classifier carries the number
+--   readTable-first           a message that is refused with 15 at `off`: off is this place
+--
+-- The definition goes by two indices, the rule's and the number's. That the table has them in byte order is LawsOrder; that no 50.6 is
+-- missing there is LawsRoom; what the search finds is LawsSearch; that what is counted earlier stands at a smaller offset is LawsAscend.
+-- Trusts: nothing.
+use Prim.Native.Nat.{ℕ, _-_, _<_}
+use mathlib.Core.Path.{_≡_, sym, subst}
+use mathlib.Core.Bool.{Bool, true, false}
+use mathlib.Core.List.{List, map, List·Memᴰ}
+use lib.ListN.{length, getD, take}
+use Rattle.table.specs.Table.{emptyTable}
+use Rattle.table.specs.declared.Table.{Table}
+use Rattle.contents.specs.Rows.{rowIn, placesOf}
+use Rattle.contents.specs.Rules.{ruleAt}
+use Rattle.reader.specs.Take.{tableOf, isListed, classifierNumbers, unanswered, namedPlace}
+use Rattle.reader.specs.Read.{readTable}
+use Rattle.reader.specs.declared.Lone.the-variants.{Number}
+use Rattle.reader.specs.declared.Verdict.the-variants.{Refused}
+use Rattle.demands.proofs.LawsOrder.{rulesOf-tableOf}
+use Rattle.demands.proofs.LawsAscend.{Apart, places-apart}
+use Rattle.demands.proofs.LawsSearch.{FirstLone, unanswered-first}
+use Rattle.demands.proofs.LawsStand.{namedPlaces, named, rule-among, number-inside, number-lone, all-before}
+use Rattle.demands.proofs.LawsReached.{Reached, message-reached}
+
+abbrev pub rulePlaces : List ℕ → List ℕ
+rulePlaces msg = placesOf msg 50 (rowIn msg 0 (length msg))
+
+abbrev pub isCarried : List ℕ → ℕ → Bool
+isCarried msg at = isListed (named msg at) (classifierNumbers (tableOf msg))
+
+pub record FirstUnanswered (msg : List ℕ) (off : ℕ) : Type 0 where
+  pub rule : ℕ
+  pub among : List·Memᴰ rule (rulePlaces msg)
+  pub inside : List·Memᴰ off (namedPlaces msg rule)
+  pub lone : isCarried msg off ≡ false
+  pub before : (p at : ℕ) → List·Memᴰ p (rulePlaces msg) → List·Memᴰ at (namedPlaces msg p) → at < off → isCarried msg at ≡ true
+
+module _ (msg : List ℕ) (off : ℕ) (r : Reached msg off (rowIn msg 0 (length msg)) emptyTable) where
+  abbrev carried : List ℕ
+  carried = classifierNumbers (tableOf msg)
+
+  searched : unanswered (tableOf msg) ≡ Number (r .i) (r .j)
+  unfolding tableOf
+  searched = r .found
+
+  table-first : FirstLone carried (take 32 (map (ruleAt msg) (rulePlaces msg))) (r .i) (r .j)
+  table-first = subst (λ l. FirstLone carried l (r .i) (r .j)) (rulesOf-tableOf msg) (unanswered-first (tableOf msg) (r .i) (r .j) searched)
+
+  all-apart : Apart msg (rulePlaces msg)
+  unfolding rowIn
+  all-apart = places-apart msg (length msg - 0) 0
+
+  stands : off ≡ getD (namedPlaces msg (getD (rulePlaces msg) (r .i) 0)) (r .j) 0
+  unfolding namedPlace
+  stands = r .place
+
+  first-unanswered : FirstUnanswered msg off
+  first-unanswered =
+      subst (λ o. FirstUnanswered msg o) (sym stands)
+      (record {
+        rule = getD (rulePlaces msg) (r .i) 0;
+        among = rule-among msg carried (rulePlaces msg) (r .i) (r .j) table-first;
+        inside = number-inside msg carried (rulePlaces msg) (r .i) (r .j) table-first;
+        lone = number-lone msg carried (rulePlaces msg) (r .i) (r .j) table-first;
+        before = all-before msg carried (rulePlaces msg) (r .i) (r .j) table-first all-apart (r .room);
+      })
+
+pub readTable-first : (given : Table) (msg : List ℕ) (off : ℕ) → readTable given msg .verdict ≡ Refused 15 off → FirstUnanswered msg off
+readTable-first given msg off x = first-unanswered msg off (message-reached given msg off x)
