@@ -253,7 +253,7 @@ fn modem_events() {
     let numbers = events.map(Event::numbers);
     let (mut m1, mut m2) = (Modem::idle(), Modem::idle());
     let _ = m1.on_event(0, Event::Start { permitted: true });
-    plain::modem::on_event(&mut m2, 0, Event::Start { permitted: true });
+    plain::modem::on_event(&mut m2, 0, 1, 1, 0, 0, 0);
     let (mut c1, mut c2) = (0u32, 0u32);
     report(
         "a modem event",
@@ -266,9 +266,10 @@ fn modem_events() {
                 }
             }),
             runner("plain", || {
-                for event in events {
+                for (event, [a, b, c, d]) in numbers {
                     c2 = c2.wrapping_add(7);
-                    black_box(plain::modem::on_event(&mut m2, c2, black_box(event)));
+                    let event = black_box(event);
+                    black_box(plain::modem::on_event(&mut m2, c2, event, a, b, c, d));
                 }
             }),
         ],

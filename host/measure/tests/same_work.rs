@@ -142,7 +142,9 @@ fn steps_the_modem_alike() {
         let event = events[(turn >> 33) % events.len()];
         clock = clock.wrapping_add((turn >> 40) as u32 % 3_000);
         let answer = m1.on_event(clock, event).map_or_else(|r| r.number, |()| 0);
-        assert_eq!(answer, plain::modem::on_event(&mut m2, clock, event));
+        let (number, [a, b, c, d]) = event.numbers();
+        let plain = plain::modem::on_event(&mut m2, clock, number, a, b, c, d);
+        assert_eq!(u32::from(answer), plain);
         assert_eq!(m1, m2);
     }
 }

@@ -1,7 +1,6 @@
 //! A modem record and its events.
 
 use dsg::records::{state, Modem};
-use dsg::Event;
 
 fn is_forwarding(m: &Modem) -> bool {
     (state::ONE_WAY..=state::TWO_WAY).contains(&m.state)
@@ -88,34 +87,36 @@ fn tick(m: &mut Modem) {
     }
 }
 
-fn act(m: &mut Modem, event: Event) {
+/// The event of a number, 2 to 12 in the order of the table.
+fn act(m: &mut Modem, event: u8, values: [u16; 4]) {
     match event {
-        Event::Start { .. } => {}
-        Event::Locked if m.state == state::SCANNING => {
+        2 if m.state == state::SCANNING => {
             enter(m, state::CHECKING);
             load_receive(m, m.tdsg1);
         }
-        Event::ScanEmpty if m.state == state::SCANNING => to_resting(m),
-        Event::TableAccepted(values) => accept(m, values),
-        Event::Packet if is_forwarding(m) => load_receive(m, m.tdsg2),
-        Event::Tick => tick(m),
-        Event::Enable => {
+        3 if m.state == state::SCANNING => to_resting(m),
+        4 => accept(m, values),
+        5 if is_forwarding(m) => load_receive(m, m.tdsg2),
+        6 => tick(m),
+        7 => {
             m.permission = 1;
             if m.state == state::ONE_WAY {
                 enter(m, state::RANGING);
             }
         }
-        Event::UpstreamUp(ucid) if m.state == state::RANGING => {
-            enter(m, state::TWO_WAY);
-            m.hasucid = 1;
-            m.ucid = ucid;
+        8 if m.state == state::RANGING => {
+            if let Ok(ucid) = u8::try_from(values[0]) {
+                enter(m, state::TWO_WAY);
+                m.hasucid = 1;
+                m.ucid = ucid;
+            }
         }
-        Event::UpstreamLost if is_sending(m) => {
+        9 if is_sending(m) => {
             enter(m, state::ONE_WAY);
             m.retryon = 1;
             m.retry = u32::from(m.tdsg3) * 1000;
         }
-        Event::Disable => {
+        10 => {
             m.permission = 0;
             m.retryon = 0;
             m.retry = 0;
@@ -123,7 +124,7 @@ fn act(m: &mut Modem, event: Event) {
                 enter(m, state::ONE_WAY);
             }
         }
-        Event::Hunt | Event::DownstreamLost if is_listening(m) => to_scanning(m),
+        11 | 12 if is_listening(m) => to_scanning(m),
         _ => {}
     }
 }
@@ -141,11 +142,12 @@ fn start(m: &mut Modem, clock: u32, permission: bool) {
     };
 }
 
-/// One event on a lent record: 0, or 18 where the clock went back.
+/// One event on a lent record: 0, or 18 where the clock went back. The event comes as a C host passes it, by its number
+/// and four arguments: the library's function is called with these, so an event that came decoded would be less work.
 #[inline(never)]
-pub fn on_event(m: &mut Modem, clock: u32, event: Event) -> u8 {
-    if let Event::Start { permitted } = event {
-        start(m, clock, permitted);
+pub fn on_event(m: &mut Modem, clock: u32, event: u8, a: u16, b: u16, c: u16, d: u16) -> u32 {
+    if event == 1 && a < 2 {
+        start(m, clock, a == 1);
         return 0;
     }
     if counts_idle(m) {
@@ -162,6 +164,6 @@ pub fn on_event(m: &mut Modem, clock: u32, event: Event) -> u8 {
     if m.retryon == 1 {
         m.retry = m.retry.saturating_sub(step);
     }
-    act(m, event);
+    act(m, event, [a, b, c, d]);
     0
 }
