@@ -18,6 +18,7 @@ use Rattle.table.specs.Table.{emptyTable}
 use Rattle.table.specs.declared.Table.{Table}
 use Rattle.contents.specs.Rows.{rowIn, placesOf}
 use Rattle.contents.specs.Rules.{ruleAt}
+use Rattle.rows.specs.Tests.{noneCounted}
 use Rattle.reader.specs.Take.{tableOf, isListed, classifierNumbers, unanswered, namedPlace}
 use Rattle.reader.specs.Read.{readTable}
 use Rattle.reader.specs.declared.Lone.the-variants.{Number}
@@ -41,7 +42,7 @@ pub record FirstUnanswered (msg : List ℕ) (off : ℕ) : Type 0 where
   pub lone : isCarried msg off ≡ false
   pub before : (p at : ℕ) → List·Memᴰ p (rulePlaces msg) → List·Memᴰ at (namedPlaces msg p) → at < off → isCarried msg at ≡ true
 
-module _ (msg : List ℕ) (off : ℕ) (r : Reached msg off (rowIn msg 0 (length msg)) emptyTable) where
+module _ (msg : List ℕ) (off : ℕ) (r : Reached msg off (rowIn msg 0 (length msg)) noneCounted emptyTable) where
   abbrev carried : List ℕ
   carried = classifierNumbers (tableOf msg)
 
