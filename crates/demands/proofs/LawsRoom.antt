@@ -19,7 +19,7 @@ use Rattle.elements.specs.declared.Head.{Head}
 use Rattle.elements.specs.declared.Head.the-variants.{End, Refused, Value}
 use Rattle.rows.specs.Tests.{stepped, isRow, rowEnd, noneCounted}
 use Rattle.rows.specs.Rows as rows
-use Rattle.rows.specs.Rows.{elementWith, noted, goOn, onHead, rowStep, rowOf, elementOf, tested, testedAt}
+use Rattle.rows.specs.Rows.{elementWith, noted, goOn, onHead, rowStep, rowOf, elementOf, testedAt}
 use Rattle.rows.specs.declared.Tally.{Tally}
 use Rattle.rows.specs.declared.Step.{Step}
 use Rattle.rows.specs.declared.Fault.{Fault}

@@ -5,7 +5,7 @@
 -- OneAnswer: every contract admits one answer.
 -- Starred: the starred examples, one list under one theorem.      Listed: the example of dcdlist.
 -- Sentences: sentences of document 01 that follow from the definitions.
--- LawsOrder: the rules and their numbers stand in the table in byte order.      LawsAscend: places ascend.
+-- LawsFill, LawsOrder: rules, classifiers and numbers stand in the table in byte order.      LawsAscend: places ascend.
 -- LawsCount, LawsRoom: what passed its tests keeps to the room of the lists.
 -- LawsSearch: what the search for a lone number finds.
 -- LawsStand: where its number stands.      LawsReached: where reading comes to 15.
@@ -20,6 +20,7 @@ pub mod OneAnswer
 pub mod Starred
 pub mod Listed
 pub mod Sentences
+pub mod LawsFill
 pub mod LawsOrder
 pub mod LawsAscend
 pub mod LawsCount
