@@ -5,6 +5,7 @@
 --   FirstUnanswered msg off   at `off` stands a 50.6 of a top-level 50 and no classifier carries its number; of every 50.6 at a smaller
 --                             offset, in whatever top-level 50, a classifier carries the number
 --   readTable-first           a message that is refused with 15 at `off`: off is this place
+--   lonely-refused            there is such a message
 --
 -- The definition goes by two indices, the rule's and the number's. That the table has them in byte order is LawsOrder; that no 50.6 is
 -- missing there, and no 23, is LawsRoom; what the search finds is LawsSearch; that what is counted earlier stands at a smaller offset is LawsAscend.
@@ -16,14 +17,20 @@ use mathlib.Core.List.{List, [], _∷_, map, List·Memᴰ}
 use native.Mathlib.Omega.{arith}
 use lib.ListN.{length, getD, take, length-map}
 use lib.Seq.{take-all}
-use Rattle.table.specs.Table.{emptyTable}
+use Rattle.wire.specs.Bytes.{numberAt, pasted}
+use Rattle.elements.specs.Elements.{headAt}
+use Rattle.elements.specs.Types.{knownTypes}
+use Rattle.elements.specs.Places.{childOf, under, placed, typeOf, parentIn, table, lineAt, placeIn, knownAt, typeUnder, missingIn, lacksMust}
+use Rattle.table.specs.Table.{rulesOf, classifiersOf, numbersOf, emptyTable}
 use Rattle.table.specs.declared.Classifier.{Classifier}
 use Rattle.table.specs.declared.Table.{Table}
-use Rattle.contents.specs.Rows.{rowIn, placesOf}
-use Rattle.contents.specs.Rules.{ruleAt}
+use Rattle.contents.specs.Rows.{done, item, rowFrom, rowIn, rowInside, placesOf}
+use Rattle.contents.specs.Rules.{withClient, clientAt, withClientChild, clientsIn, withNamed, withRuleChild, ruleAt}
 use Rattle.contents.specs.Classifiers.{classifierAt}
-use Rattle.rows.specs.Tests.{noneCounted}
-use Rattle.reader.specs.Take.{tableOf, isListed, classifierNumbers, unanswered, namedPlace}
+use Rattle.rows.specs.Tests.{secondCopy, wrongLength, noChannel, badValue, isFull, ownTests, isRow, rowEnd, noneCounted, emptyTally}
+use Rattle.rows.specs.Rows as rows
+use Rattle.rows.specs.Rows.{elementWith, rowStep, rowOf, elementOf, testedAt}
+use Rattle.reader.specs.Take.{withRule, withElement, tableOf, isListed, classifierNumbers, isTaken, unanswered, namedPlace}
 use Rattle.reader.specs.Read.{readTable}
 use Rattle.reader.specs.declared.Lone.the-variants.{Number}
 use Rattle.reader.specs.declared.Verdict.the-variants.{Refused}
@@ -98,3 +105,33 @@ module _ (msg : List ℕ) (off : ℕ) (r : Reached msg off (rowIn msg 0 (length 
 
 pub readTable-first : (given : Table) (msg : List ℕ) (off : ℕ) → readTable given msg .verdict ≡ Refused 15 off → FirstUnanswered msg off
 readTable-first given msg off x = first-unanswered msg off (message-reached given msg off x)
+
+-- ---- such a message: one rule, whose only 50.6 stands at 19 and names 9, and no classifier
+
+abbrev lonely : List ℕ
+lonely =
+    0x32 ∷ 21 ∷ 1 ∷ 1 ∷ 5 ∷ 4 ∷ 4 ∷ 4 ∷ 2 ∷ 0 ∷ 42 ∷ 5 ∷ 6 ∷ 1 ∷ 0 ∷ 0x5E ∷ 5 ∷ 5 ∷ 5 ∷ 6 ∷ 2 ∷ 0 ∷ 9 ∷ []
+
+row-lonely : rowIn lonely 0 23 ≡ item 0 21 done
+unfolding rowFrom rowIn headAt
+row-lonely = refl
+
+tested-lonely : testedAt lonely 0 emptyTally .bad ≡ 0
+unfolding numberAt headAt knownTypes childOf under placed typeOf parentIn table lineAt placeIn knownAt typeUnder missingIn lacksMust secondCopy wrongLength noChannel badValue isFull ownTests isRow rowEnd elementWith rowStep rows.rowFrom rowOf elementOf testedAt
+tested-lonely = refl
+
+free-lonely : isTaken lonely 0 emptyTable ≡ false
+unfolding isTaken rulesOf numberAt pasted headAt rowFrom rowIn rowInside withClient clientAt withClientChild clientsIn withNamed withRuleChild ruleAt
+free-lonely = refl
+
+lone-lonely : unanswered (withElement lonely 0 emptyTable) ≡ Number 0 0
+unfolding unanswered rulesOf numbersOf classifiersOf numberAt pasted headAt rowFrom rowIn rowInside withClient clientAt withClientChild clientsIn withNamed withRuleChild ruleAt withRule withElement
+lone-lonely = refl
+
+place-lonely : namedPlace lonely 0 0 ≡ 19
+unfolding namedPlace headAt rowFrom rowIn rowInside
+place-lonely = refl
+
+pub lonely-refused : (given : Table) → readTable given lonely .verdict ≡ Refused 15 19
+unfolding readTable
+lonely-refused given = rw (row-lonely, tested-lonely, free-lonely, lone-lonely, place-lonely) refl
