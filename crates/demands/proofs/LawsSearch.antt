@@ -4,8 +4,8 @@
 --   unanswered-first         Number i j: number j of rule i is there and no classifier of the table carries it, and one carries every
 --                            number of an earlier rule and every earlier number of rule i
 -- Trusts: nothing.
-use Prim.Native.Nat.{ℕ, zero, suc, _+_, _≤_, _<_}
-use mathlib.Core.Path.{_≡_, refl, sym, ap, _∙_}
+use Prim.Native.Nat.{ℕ, suc, _+_, _<_}
+use mathlib.Core.Path.{_≡_, refl}
 use mathlib.Core.Bool.{Bool, true, false, cond}
 use mathlib.Core.List.{List, [], _∷_, List·Memᴰ, List·Memᴰ·not-nil, List·Memᴰ·cases-cons}
 use mathlib.Core.Logic.{_⊎_, inl, inr, ⊎-elim}
@@ -16,7 +16,7 @@ use Rattle.table.specs.declared.Rule.{Rule}
 use Rattle.table.specs.declared.Table.{Table}
 use Rattle.reader.specs.Take.{isListed, classifierNumbers, loneIn, loneOf, unanswered}
 use Rattle.reader.specs.declared.Lone.{Lone}
-use Rattle.reader.specs.declared.Lone.the-variants.{Answered, Number}
+use Rattle.reader.specs.declared.Lone.the-variants.{Number}
 
 -- of the numbers `ns` the j-th is the first that is not carried
 pub record FirstNumber (carried ns : List ℕ) (j : ℕ) : Type 0 where

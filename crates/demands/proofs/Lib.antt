@@ -5,8 +5,9 @@
 -- OneAnswer, OneAnswerParts, OneAnswerC: every contract admits one answer.      Values: both, of the functions under the C interface.
 -- Starred: the starred examples, one list under one theorem.      Listed: the example of dcdlist.
 -- Sentences: sentences of document 01 that follow from the definitions.
--- LawsOrder: the rules and their numbers stand in the table in byte order.      LawsAscend: places ascend.
--- LawsRoom: a rule that passed its tests names eight at most.      LawsSearch: what the search for a lone number finds.
+-- LawsFill, LawsOrder: rules, classifiers and numbers stand in the table in byte order.      LawsAscend: places ascend.
+-- LawsCount, LawsRoom: what passed its tests keeps to the room of the lists.
+-- LawsSearch: what the search for a lone number finds.
 -- LawsStand: where its number stands.      LawsReached: where reading comes to 15.
 -- Lone: refusal 15 stands at the first 50.6 that no classifier answers.
 -- Silence: after Disable the transmitter stays off.      Controls: wrong programs refuted.
@@ -26,8 +27,10 @@ pub mod OneAnswerC
 pub mod Starred
 pub mod Listed
 pub mod Sentences
+pub mod LawsFill
 pub mod LawsOrder
 pub mod LawsAscend
+pub mod LawsCount
 pub mod LawsRoom
 pub mod LawsSearch
 pub mod LawsStand
