@@ -5,7 +5,6 @@
 --   ruleVerdict t rule frame the verdict of a chosen rule: Other, Forward or Filtered
 --   verdictOf t c u frame    the verdict: 16, then 17, then the chosen rule's
 --   payloadOf v frame        the part of the frame that is lent back: from byte 14 on with Forward, else nothing
---   refusalOf, numberOf      what a verdict says: the paper's refusal number, 0 for none; the classifier's, 0 for none
 --
 -- A number that no classifier of the table carries never matches; of a repeated number every entry is tried.
 -- Tested by: random tables and frames against the other program. Trusts: nothing.
@@ -55,15 +54,3 @@ payloadStart Filtered n = n
 
 unfoldable pub payloadOf : Verdict → List ℕ → List ℕ
 payloadOf v frame = drop (payloadStart v (length frame)) frame
-
-abbrev pub refusalOf : Verdict → ℕ
-refusalOf (Refused n) = n
-refusalOf Other = 0
-refusalOf (Forward n) = 0
-refusalOf Filtered = 0
-
-abbrev pub numberOf : Verdict → ℕ
-numberOf (Refused n) = 0
-numberOf Other = 0
-numberOf (Forward n) = n
-numberOf Filtered = 0
