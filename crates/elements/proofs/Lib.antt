@@ -1,3 +1,6 @@
--- Laws: what proofs here and above may know of headAt. LawsTypes: the same of the known types and their look-up.
+-- Laws: what proofs here and above may know of headAt. LawsTypes: the same of the known types. LawsColumns: of the code's columns.
+-- LawsPlaces: of the look-up, place by place.
 pub mod Laws
 pub mod LawsTypes
+pub mod LawsColumns
+pub mod LawsPlaces

@@ -1,4 +1,3 @@
 pub mod Elements
 pub mod Types
 pub mod Places
-pub mod Packed

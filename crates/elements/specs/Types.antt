@@ -10,7 +10,7 @@
 --   list      which of its row's lists it is counted in: one for each type, but one for the four kinds of client ID together
 --
 -- A value has at most 254 bytes, so a room of 255 is never used up. 50.43 and 51.43 are skipped and so not listed.
--- Tested by: the array of the code, which is this table (proofs/LawsTypes.antt). Trusts: nothing.
+-- Tested by: the arrays of the code, which are this table (proofs/LawsTypes.antt). Trusts: nothing.
 use Prim.Native.Nat.{ℕ}
 use mathlib.Core.Bool.{Bool, true, false}
 use mathlib.Core.List.{List, [], _∷_}

@@ -1,14 +1,16 @@
-// The known types of document 01's table as a constant array, and their look-up.
+// The known types of document 01's table as constant arrays, a column each, and their look-up.
 //
 // Two public functions, `find_type` and `lacks_must`. They take any numbers and refuse nothing: a row
 // that is no type's, and a type that is not listed there, are answered as such.
 //
-// Types have places, 0 to 25, in the array; the types of one row stand together. A row is named by the
-// place of the type whose value it is, and the message itself by 26.
+// Types have places, 0 to 25, the same in every array; the types of one row stand together. A row is named
+// by the place of the type whose value it is, and the message itself by 26.
 ghost use mathlib.Core.Path.{_≡_};
-ghost use Prim.Native.Nat.{_-_, _/_, _%_, _≤_, _<_};
-ghost use Rattle.elements.specs.Places.{typeUnder, lacksMust, placeIn, missingIn};
-ghost use Rattle.elements.specs.Packed.{lengthsOf, valuesOf, knownOf, packedAt};
+ghost use mathlib.Core.Bool.{_&&_};
+ghost use Prim.Native.Nat.{_+_, _-_, _≤_, _<_};
+ghost use lib.Dec.{eqb};
+ghost use lib.ListN.{getD};
+ghost use Rattle.elements.specs.Places.{typeUnder, lacksMust, placeIn, lacksIn, lineAt, knownAt};
 
 // The row that is the whole message.
 pub const TOP_LEVEL: usize = 26;
@@ -51,211 +53,413 @@ pub struct Known {
     pub list: usize,
 }
 
-// A line of the table is one number, so that the compiler can carry it in a register. It is a sum of its columns,
-// a byte each: the type itself, then these.
-// The row that it stands in.
-const IN: u64 = 0x100;
-
-// Its length: ROW, NONE_OR_2, ONE_OR_MORE, or the number of its bytes.
-const LENGTH: u64 = 0x1_0000;
-
-const ROW: u64 = 255;
-
-const NONE_OR_2: u64 = 254;
-
-const ONE_OR_MORE: u64 = 253;
-
-// Its need and its repeat mark; no type has both.
-const MARK: u64 = 0x100_0000;
-
-const MUST: u64 = 0x100_0000;
-
-const REPEATS: u64 = 0x200_0000;
-
-// The values that are forbidden.
-const VALUES: u64 = 0x1_0000_0000;
-
-const NOT_ZERO: u64 = 0x1_0000_0000;
-
-const CHANNEL: u64 = 0x2_0000_0000;
-
-// The room of its list; a type without a list has more than a value can have bytes.
-const ROOM: u64 = 0x100_0000_0000;
-
-const NO_LIST: u64 = 255;
-
-// Which of its row's lists it is counted in, and its own place.
-const LIST: u64 = 0x1_0000_0000_0000;
-
-const PLACE: u64 = 0x100_0000_0000_0000;
-
-// The table: top level, then what stands in 23, 23.9, 50, 50.4 and 51.
-const TYPES: [u64; 26] = [
-    // 23
-    23 + IN * 26 + LENGTH * ROW + REPEATS + ROOM * 32,
-    // 50
-    50 + IN * 26 + LENGTH * ROW + REPEATS + ROOM * 32 + LIST * 1 + PLACE * 1,
-    // 51
-    51 + IN * 26 + LENGTH * ROW + ROOM * NO_LIST + LIST * 2 + PLACE * 2,
-    // 23.2
-    2 + IN * 0 + LENGTH * 2 + MUST + NOT_ZERO + ROOM * NO_LIST + PLACE * 3,
-    // 23.5
-    5 + IN * 0 + LENGTH * 1 + MUST + ROOM * NO_LIST + LIST * 1 + PLACE * 4,
-    // 23.9
-    9 + IN * 0 + LENGTH * ROW + MUST + ROOM * NO_LIST + LIST * 2 + PLACE * 5,
-    // 23.9.3
-    3 + IN * 5 + LENGTH * 4 + ROOM * NO_LIST + PLACE * 6,
-    // 23.9.4
-    4 + IN * 5 + LENGTH * 4 + ROOM * NO_LIST + LIST * 1 + PLACE * 7,
-    // 23.9.5
-    5 + IN * 5 + LENGTH * 4 + MUST + ROOM * NO_LIST + LIST * 2 + PLACE * 8,
-    // 23.9.9
-    9 + IN * 5 + LENGTH * 2 + ROOM * NO_LIST + LIST * 3 + PLACE * 9,
-    // 23.9.10
-    10 + IN * 5 + LENGTH * 2 + ROOM * NO_LIST + LIST * 4 + PLACE * 10,
-    // 50.1
-    1 + IN * 1 + LENGTH * 1 + MUST + ROOM * NO_LIST + PLACE * 11,
-    // 50.2
-    2 + IN * 1 + LENGTH * 1 + ROOM * NO_LIST + LIST * 1 + PLACE * 12,
-    // 50.3
-    3 + IN * 1 + LENGTH * ONE_OR_MORE + ROOM * 16 + LIST * 2 + PLACE * 13,
-    // 50.4
-    4 + IN * 1 + LENGTH * ROW + MUST + ROOM * NO_LIST + LIST * 3 + PLACE * 14,
-    // 50.5
-    5 + IN * 1 + LENGTH * 6 + MUST + ROOM * NO_LIST + LIST * 4 + PLACE * 15,
-    // 50.6
-    6 + IN * 1 + LENGTH * 2 + REPEATS + NOT_ZERO + ROOM * 8 + LIST * 5 + PLACE * 16,
-    // 50.4.1
-    1 + IN * 14 + LENGTH * NONE_OR_2 + REPEATS + NOT_ZERO + ROOM * 8 + PLACE * 17,
-    // 50.4.2
-    2 + IN * 14 + LENGTH * 6 + REPEATS + ROOM * 8 + PLACE * 18,
-    // 50.4.3
-    3 + IN * 14 + LENGTH * 2 + REPEATS + ROOM * 8 + PLACE * 19,
-    // 50.4.4
-    4 + IN * 14 + LENGTH * 2 + REPEATS + ROOM * 8 + PLACE * 20,
-    // 51.1
-    1 + IN * 2 + LENGTH * 4 + REPEATS + CHANNEL + ROOM * 32 + PLACE * 21,
-    // 51.2
-    2 + IN * 2 + LENGTH * 2 + NOT_ZERO + ROOM * NO_LIST + LIST * 1 + PLACE * 22,
-    // 51.3
-    3 + IN * 2 + LENGTH * 2 + NOT_ZERO + ROOM * NO_LIST + LIST * 2 + PLACE * 23,
-    // 51.4
-    4 + IN * 2 + LENGTH * 2 + ROOM * NO_LIST + LIST * 3 + PLACE * 24,
-    // 51.5
-    5 + IN * 2 + LENGTH * 2 + ROOM * NO_LIST + LIST * 4 + PLACE * 25,
+// The type.
+const KINDS: [u8; 26] = [
+    23, // 23
+    50, // 50
+    51, // 51
+    2, // 23.2
+    5, // 23.5
+    9, // 23.9
+    3, // 23.9.3
+    4, // 23.9.4
+    5, // 23.9.5
+    9, // 23.9.9
+    10, // 23.9.10
+    1, // 50.1
+    2, // 50.2
+    3, // 50.3
+    4, // 50.4
+    5, // 50.5
+    6, // 50.6
+    1, // 50.4.1
+    2, // 50.4.2
+    3, // 50.4.3
+    4, // 50.4.4
+    1, // 51.1
+    2, // 51.2
+    3, // 51.3
+    4, // 51.4
+    5, // 51.5
 ];
 
-// The line of a type that is not listed.
-const NO_LINE: u64 = PLACE * 26;
+// The rows: the message itself, and the places of the five types whose value is a row.
+const MESSAGE: u8 = 26;
 
-// A column of a line.
-fn part(line: u64, unit: u64) -> usize
-    requires { ⌜ 0 < unit ⌝ }
-    ensures { λ r. ⌜ r ≡ line / unit % 256 ⌝ }
-{
-    ((line / unit) % 256) as usize
-}
+const CLASSIFIER: u8 = 0;
 
-// The lengths that a line's column stands for.
-fn lengths_of(column: usize) -> Length
-    ensures { λ r. ⌜ r ≡ lengthsOf column ⌝ }
-{
-    match column {
-        255 => Length::Row,
-        254 => Length::NoneOr(2),
-        253 => Length::OrMore(1),
-        n => Length::Bytes(n),
-    }
-}
+const IP_PART: u8 = 5;
 
-// The values that a line's column stands for.
-fn values_of(column: usize) -> Values
-    ensures { λ r. ⌜ r ≡ valuesOf column ⌝ }
-{
-    match column {
-        1 => Values::NotZero,
-        2 => Values::Channel,
-        _ => Values::Any,
-    }
-}
+const RULE: u8 = 1;
 
-// What a line says.
-fn known_of(line: u64) -> Known
-    ensures { λ r. ⌜ r ≡ knownOf line ⌝ }
-{
-    let length = lengths_of(part(line, LENGTH));
-    let values = values_of(part(line, VALUES));
-    Known {
-        place: part(line, PLACE),
-        length,
-        repeats: part(line, MARK) == 2,
-        values,
-        room: part(line, ROOM) as u8,
-        list: part(line, LIST),
-    }
-}
+const CLIENT_IDS: u8 = 14;
 
-// The line at a place.
-fn line_at(place: usize) -> u64
+const CONFIGURATION: u8 = 2;
+
+// The row that the type stands in.
+const PARENTS: [u8; 26] = [
+    MESSAGE, // 23
+    MESSAGE, // 50
+    MESSAGE, // 51
+    CLASSIFIER, // 23.2
+    CLASSIFIER, // 23.5
+    CLASSIFIER, // 23.9
+    IP_PART, // 23.9.3
+    IP_PART, // 23.9.4
+    IP_PART, // 23.9.5
+    IP_PART, // 23.9.9
+    IP_PART, // 23.9.10
+    RULE, // 50.1
+    RULE, // 50.2
+    RULE, // 50.3
+    RULE, // 50.4
+    RULE, // 50.5
+    RULE, // 50.6
+    CLIENT_IDS, // 50.4.1
+    CLIENT_IDS, // 50.4.2
+    CLIENT_IDS, // 50.4.3
+    CLIENT_IDS, // 50.4.4
+    CONFIGURATION, // 51.1
+    CONFIGURATION, // 51.2
+    CONFIGURATION, // 51.3
+    CONFIGURATION, // 51.4
+    CONFIGURATION, // 51.5
+];
+
+// The lengths that are no number of bytes.
+const ROW: u8 = 255;
+
+const NONE_OR_2: u8 = 254;
+
+const ONE_OR_MORE: u8 = 253;
+
+// The length: one of these, or the number of bytes.
+const LENGTHS: [u8; 26] = [
+    ROW, // 23
+    ROW, // 50
+    ROW, // 51
+    2, // 23.2
+    1, // 23.5
+    ROW, // 23.9
+    4, // 23.9.3
+    4, // 23.9.4
+    4, // 23.9.5
+    2, // 23.9.9
+    2, // 23.9.10
+    1, // 50.1
+    1, // 50.2
+    ONE_OR_MORE, // 50.3
+    ROW, // 50.4
+    6, // 50.5
+    2, // 50.6
+    NONE_OR_2, // 50.4.1
+    6, // 50.4.2
+    2, // 50.4.3
+    2, // 50.4.4
+    4, // 51.1
+    2, // 51.2
+    2, // 51.3
+    2, // 51.4
+    2, // 51.5
+];
+
+const MUST: bool = true;
+
+const FREE: bool = false;
+
+// The need.
+const NEEDS: [bool; 26] = [
+    FREE, // 23
+    FREE, // 50
+    FREE, // 51
+    MUST, // 23.2
+    MUST, // 23.5
+    MUST, // 23.9
+    FREE, // 23.9.3
+    FREE, // 23.9.4
+    MUST, // 23.9.5
+    FREE, // 23.9.9
+    FREE, // 23.9.10
+    MUST, // 50.1
+    FREE, // 50.2
+    FREE, // 50.3
+    MUST, // 50.4
+    MUST, // 50.5
+    FREE, // 50.6
+    FREE, // 50.4.1
+    FREE, // 50.4.2
+    FREE, // 50.4.3
+    FREE, // 50.4.4
+    FREE, // 51.1
+    FREE, // 51.2
+    FREE, // 51.3
+    FREE, // 51.4
+    FREE, // 51.5
+];
+
+const YES: bool = true;
+
+const ONCE: bool = false;
+
+// The repeat mark.
+const REPEATS: [bool; 26] = [
+    YES, // 23
+    YES, // 50
+    ONCE, // 51
+    ONCE, // 23.2
+    ONCE, // 23.5
+    ONCE, // 23.9
+    ONCE, // 23.9.3
+    ONCE, // 23.9.4
+    ONCE, // 23.9.5
+    ONCE, // 23.9.9
+    ONCE, // 23.9.10
+    ONCE, // 50.1
+    ONCE, // 50.2
+    ONCE, // 50.3
+    ONCE, // 50.4
+    ONCE, // 50.5
+    YES, // 50.6
+    YES, // 50.4.1
+    YES, // 50.4.2
+    YES, // 50.4.3
+    YES, // 50.4.4
+    YES, // 51.1
+    ONCE, // 51.2
+    ONCE, // 51.3
+    ONCE, // 51.4
+    ONCE, // 51.5
+];
+
+// The values that are allowed.
+const VALUES: [Values; 26] = [
+    Values::Any, // 23
+    Values::Any, // 50
+    Values::Any, // 51
+    Values::NotZero, // 23.2
+    Values::Any, // 23.5
+    Values::Any, // 23.9
+    Values::Any, // 23.9.3
+    Values::Any, // 23.9.4
+    Values::Any, // 23.9.5
+    Values::Any, // 23.9.9
+    Values::Any, // 23.9.10
+    Values::Any, // 50.1
+    Values::Any, // 50.2
+    Values::Any, // 50.3
+    Values::Any, // 50.4
+    Values::Any, // 50.5
+    Values::NotZero, // 50.6
+    Values::NotZero, // 50.4.1
+    Values::Any, // 50.4.2
+    Values::Any, // 50.4.3
+    Values::Any, // 50.4.4
+    Values::Channel, // 51.1
+    Values::NotZero, // 51.2
+    Values::NotZero, // 51.3
+    Values::Any, // 51.4
+    Values::Any, // 51.5
+];
+
+// The room of a type without a list: more than a value can have bytes.
+const NO_LIST: u8 = 255;
+
+// The room of the type's list.
+const ROOMS: [u8; 26] = [
+    32, // 23
+    32, // 50
+    NO_LIST, // 51
+    NO_LIST, // 23.2
+    NO_LIST, // 23.5
+    NO_LIST, // 23.9
+    NO_LIST, // 23.9.3
+    NO_LIST, // 23.9.4
+    NO_LIST, // 23.9.5
+    NO_LIST, // 23.9.9
+    NO_LIST, // 23.9.10
+    NO_LIST, // 50.1
+    NO_LIST, // 50.2
+    16, // 50.3
+    NO_LIST, // 50.4
+    NO_LIST, // 50.5
+    8, // 50.6
+    8, // 50.4.1
+    8, // 50.4.2
+    8, // 50.4.3
+    8, // 50.4.4
+    32, // 51.1
+    NO_LIST, // 51.2
+    NO_LIST, // 51.3
+    NO_LIST, // 51.4
+    NO_LIST, // 51.5
+];
+
+// Whether the type at a place is `kind` in the row `parent`.
+fn stands_at(place: usize, parent: u8, kind: u8) -> bool
     requires { ⌜ place < 26 ⌝ }
-    ensures { λ r. ⌜ r ≡ packedAt place ⌝ }
+    ensures { λ r. ⌜ r ≡ (eqb (lineAt place .parent) parent && eqb (lineAt place .kind) kind) ⌝ }
 {
-    TYPES[place]
+    PARENTS[place] == parent && KINDS[place] == kind
 }
 
-// The first line of the type `kind` in the row `parent` among the places from `from` to before `after`.
-fn find_between(from: usize, after: usize, parent: usize, kind: usize) -> u64
+// The lengths of the type at a place.
+fn length_at(place: usize) -> Length
+    requires { ⌜ place < 26 ⌝ }
+    ensures { λ r. ⌜ r ≡ lineAt place .size ⌝ }
+{
+    let column = LENGTHS[place];
+    match column {
+        ROW => Length::Row,
+        NONE_OR_2 => Length::NoneOr(2),
+        ONE_OR_MORE => Length::OrMore(1),
+        n => Length::Bytes(super::wide(n)),
+    }
+}
+
+// The values that the type at a place may have.
+fn values_at(place: usize) -> Values
+    requires { ⌜ place < 26 ⌝ }
+    ensures { λ r. ⌜ r ≡ lineAt place .values ⌝ }
+{
+    VALUES[place]
+}
+
+// What the table says of the type at a place, with its lengths and its list.
+fn known_at(place: usize, length: Length, list: usize) -> Known
+    requires { ⌜ (place < 26) × (length ≡ lineAt place .size) × (list ≡ lineAt place .list) ⌝ }
+    ensures { λ r. ⌜ r ≡ knownAt place ⌝ }
+{
+    let values = values_at(place);
+    Known {
+        place,
+        length,
+        repeats: REPEATS[place],
+        values,
+        room: ROOMS[place],
+        list,
+    }
+}
+
+// What the table says of a type that is not listed.
+fn no_type() -> Known
+    ensures { λ r. ⌜ r ≡ knownAt 26 ⌝ }
+{
+    Known {
+        place: UNLISTED,
+        length: Length::Bytes(0),
+        repeats: ONCE,
+        values: Values::Any,
+        room: 0,
+        list: 0,
+    }
+}
+
+// The first place of the type `kind` in the row `parent` among those from `from` to before `after`.
+fn place_between(from: usize, after: usize, parent: u8, kind: u8) -> usize
     requires { ⌜ (from ≤ after) × (after ≤ 26) ⌝ }
-    ensures { λ r. ⌜ r ≡ packedAt (placeIn from (after - from) parent kind) ⌝ }
+    ensures { λ r. ⌜ (r ≡ placeIn from (after - from) parent kind) × (from ≤ r) × (r ≤ 26) × (r < 26 → r < after) ⌝ }
 {
     let mut i = from;
     while i < after {
-        let line = line_at(i);
-        let row = part(line, IN);
-        let its = part(line, 1);
-        if row == parent && its == kind {
-            return line;
+        if stands_at(i, parent, kind) {
+            return i;
         }
         i += 1;
     }
-    NO_LINE
+    UNLISTED
 }
 
-// The line of the type `kind` in the row `parent`. Only that row's few places are looked through.
-fn find_line(parent: usize, kind: u8) -> u64
-    ensures { λ r. ⌜ r ≡ packedAt (placeIn 0 26 parent kind) ⌝ }
+// A place, and the list of the type there.
+struct Found {
+    place: usize,
+    list: usize,
+}
+
+// What a search gave in a row whose first place is `first`, and whose types have a list each.
+fn found_in(first: usize, place: usize) -> Found
+    requires { ⌜ first ≤ place ⌝ }
+    ensures { λ r. ⌜ (r .place ≡ place) × (place < 26 → r .list ≡ place - first) ⌝ }
 {
-    let want = kind as usize;
-    match parent {
-        26 => find_between(0, 3, 26, want),
-        0 => find_between(3, 6, 0, want),
-        5 => find_between(6, 11, 5, want),
-        1 => find_between(11, 17, 1, want),
-        14 => find_between(17, 21, 14, want),
-        2 => find_between(21, 26, 2, want),
-        _ => NO_LINE,
+    if place == UNLISTED {
+        return Found { place, list: 0 };
     }
+    Found {
+        place,
+        list: place - first,
+    }
+}
+
+// Where the type `kind` stands in the row `parent`, which is not the message. Only that row's few places are looked
+// through. The client IDs have one list together.
+fn find_place(parent: usize, kind: u8) -> Found
+    requires { ⌜ (parent ≡ 26 → ⊥) ⌝ }
+    ensures { λ r. ⌜ (r .place ≡ placeIn 0 26 parent kind) × (r .place ≤ 26) × (r .place < 26 → r .list ≡ lineAt (r .place) .list) ⌝ }
+{
+    match parent {
+        0 => found_in(3, place_between(3, 6, CLASSIFIER, kind)),
+        5 => found_in(6, place_between(6, 11, IP_PART, kind)),
+        1 => found_in(11, place_between(11, 17, RULE, kind)),
+        14 => Found {
+            place: place_between(17, 21, CLIENT_IDS, kind),
+            list: 0,
+        },
+        2 => found_in(21, place_between(21, 26, CONFIGURATION, kind)),
+        _ => Found {
+            place: UNLISTED,
+            list: 0,
+        },
+    }
+}
+
+// What the table says of the type `kind` in the message itself. This one search reads the columns as it goes, so that
+// the compiler sees each index: it is the only work that an unlisted element at top level costs.
+fn find_top(kind: u8) -> Known
+    ensures { λ r. ⌜ r ≡ knownAt (placeIn 0 3 26 kind) ⌝ }
+{
+    let mut place = 0;
+    while place < 3 {
+        if stands_at(place, MESSAGE, kind) {
+            let length = length_at(place);
+            return known_at(place, length, place);
+        }
+        place += 1;
+    }
+    no_type()
 }
 
 // What the table says of the type `kind` in the row `parent`.
 pub fn find_type(parent: usize, kind: u8) -> Known
     ensures { λ r. ⌜ r ≡ typeUnder parent kind ⌝ }
 {
-    known_of(find_line(parent, kind))
+    if parent == TOP_LEVEL {
+        return find_top(kind);
+    }
+    let found = find_place(parent, kind);
+    let place = found.place;
+    if place == UNLISTED {
+        return no_type();
+    }
+    let length = length_at(place);
+    known_at(place, length, found.list)
 }
 
-// Whether, of the places from `from` to before `after`, a must of the row `parent` has a count of 0.
-fn lacks_between(from: usize, after: usize, parent: usize, counts: &[u8; 8]) -> bool
-    requires { ⌜ (from ≤ after) × (after ≤ 26) ⌝ }
-    ensures { λ r. ⌜ r ≡ missingIn from (after - from) parent (now (counts .entry)) ⌝ }
+// Whether the type at a place, which is counted in `list`, is a must with a count of 0.
+fn lacks_at(place: usize, list: usize, counts: &[u8; 8]) -> bool
+    requires { ⌜ (place < 26) × (list < 8) ⌝ }
+    ensures { λ r. ⌜ r ≡ (lineAt place .need && eqb (getD (now (counts .entry)) list 0) 0) ⌝ }
+{
+    NEEDS[place] && counts[list] == 0
+}
+
+// Whether a must has a count of 0, of the places from `from`, the first of a row, to before `after`. Where a row has
+// musts, its types have a list each.
+fn lacks_between(from: usize, after: usize, counts: &[u8; 8]) -> bool
+    requires { ⌜ (from ≤ after) × (after ≤ from + 8) × (after ≤ 26) ⌝ }
+    ensures { λ r. ⌜ r ≡ lacksIn from from (after - from) (now (counts .entry)) ⌝ }
 {
     let mut i = from;
     while i < after {
-        let line = line_at(i);
-        let row = part(line, IN);
-        let mark = part(line, MARK);
-        let list = part(line, LIST);
-        if row == parent && mark == 1 && counts[list] == 0 {
+        if lacks_at(i, i - from, counts) {
             return true;
         }
         i += 1;
@@ -268,12 +472,12 @@ pub fn lacks_must(parent: usize, counts: &[u8; 8]) -> bool
     ensures { λ r. ⌜ r ≡ lacksMust parent (now (counts .entry)) ⌝ }
 {
     match parent {
-        26 => lacks_between(0, 3, 26, counts),
-        0 => lacks_between(3, 6, 0, counts),
-        5 => lacks_between(6, 11, 5, counts),
-        1 => lacks_between(11, 17, 1, counts),
-        14 => lacks_between(17, 21, 14, counts),
-        2 => lacks_between(21, 26, 2, counts),
+        26 => lacks_between(0, 3, counts),
+        0 => lacks_between(3, 6, counts),
+        5 => lacks_between(6, 11, counts),
+        1 => lacks_between(11, 17, counts),
+        14 => lacks_between(17, 21, counts),
+        2 => lacks_between(21, 26, counts),
         _ => false,
     }
 }

@@ -2,23 +2,19 @@
 -- left of the places falls.
 -- Trusts: nothing.
 use borrow.Author.Needs.{needs}
-use Prim.Native.Nat.{ℕ, _≤_, _-_, _+_}
-use mathlib.Core.Path.{_≡_, refl, sym, ap, _∙_}
-use mathlib.Core.Logic.{⊎-elim}
+use Prim.Native.Nat.{_≤_, _-_}
+use mathlib.Core.Path.{_≡_, sym, _∙_}
 use native.Mathlib.Omega.{arith}
-use borrow.Author.Tests.{eqb-true, eqb-false}
-use lib.Dec.{eqb}
-use Rattle.elements.specs.Places.{missingIn}
-use Rattle.elements.proofs.LawsTypes.{parent-packed, need-packed, list-packed, lineAt-list, missingIn-here, missingIn-row, missingIn-free, missingIn-counted, missingIn-none}
+use Rattle.elements.specs.Places.{lacksIn}
+use Rattle.elements.proofs.LawsPlaces.{lacksIn-here, lacksIn-other, lacksIn-none}
 use Rattle.elements.proofs.types.lacks_between.Statement.{statement}
 use Rattle.elements.proofs.types.lacks_between.Tie as tie
 
 abbrev Inv-loop : tie.InvT-loop
-Inv-loop from after parent counts i₀ i =
-    (i ≤ after) × (missingIn i (after - i) parent counts ≡ missingIn from (after - from) parent counts)
+Inv-loop from after counts i₀ i = (i ≤ after) × (from ≤ i) × (lacksIn from i (after - i) counts ≡ lacksIn from from (after - from) counts)
 
 abbrev μ-loop : tie.MeasureT-loop
-μ-loop from after parent counts i₀ i = after - i
+μ-loop from after counts i₀ i = after - i
 
 pub lacks-between-spec : {M : Type 1} → statement M
 lacks-between-spec =
@@ -27,13 +23,10 @@ lacks-between-spec =
     Inv-loop
     μ-loop
     (λ c. search needs)
+    (λ c. search needs)
     (λ c κs. search needs)
-    (λ c κs. search needs)
-    (λ c κs. search needs)
-    (λ c κs. search needs)
-    (λ c. lineAt-list _ (c .before .before .part3 .ensures ∙ list-packed _ (c .before .before .before .before .before .line-at .ensures)))
-    (λ c. sym (missingIn-here _ _ _ (c .before .before .before .before .before .before .before .before .loop-test .taken) (c .before .before .before .before .before .before .part .ensures ∙ parent-packed _ (c .before .before .before .before .before .before .before .line-at .ensures)) _ (c .before .before .before .before .before .part2 .result) (ap (λ (m : ℕ). eqb m 1) (c .before .before .before .before .before .part2 .ensures) ∙ need-packed _ (c .before .before .before .before .before .before .before .line-at .ensures)) (c .before .before .before .before .part3 .ensures ∙ list-packed _ (c .before .before .before .before .before .before .before .line-at .ensures)) (c .before .before .before .if1 .taken) (eqb-true _ _ (c .before .before .if2 .taken)) (eqb-true _ _ (c .if3 .taken))) ∙ c .before .before .before .before .before .before .before .before .before .loop .inv .1)
+    (λ c. sym (lacksIn-here _ _ (c .before .before .loop-test .taken) _ _ (c .before .lacks-at .ensures) (c .if1 .taken)) ∙ c .before .before .before .loop .inv .2)
     (λ c. search needs)
     (λ c. search needs)
-    (λ c. (search needs, ⊎-elim (λ w. sym (missingIn-counted _ _ _ (c .before .before .before .before .before .loop-test .taken) (c .before .before .before .part .ensures ∙ parent-packed _ (c .before .before .before .before .line-at .ensures)) _ (c .before .before .part2 .result) (ap (λ (m : ℕ). eqb m 1) (c .before .before .part2 .ensures) ∙ need-packed _ (c .before .before .before .before .line-at .ensures)) (c .before .part3 .ensures ∙ list-packed _ (c .before .before .before .before .line-at .ensures)) (w .0 .taken) (eqb-true _ _ (w .1 .taken)) (eqb-false _ _ (w .3 .left))) ∙ c .before .before .before .before .before .before .loop .inv .1) (⊎-elim (λ w. sym (missingIn-free _ _ _ (c .before .before .before .before .before .loop-test .taken) (c .before .before .before .part .ensures ∙ parent-packed _ (c .before .before .before .before .line-at .ensures)) _ (c .before .before .part2 .result) (ap (λ (m : ℕ). eqb m 1) (c .before .before .part2 .ensures) ∙ need-packed _ (c .before .before .before .before .line-at .ensures)) (c .before .part3 .ensures ∙ list-packed _ (c .before .before .before .before .line-at .ensures)) (w .0 .taken) (eqb-false _ _ (w .1 .left))) ∙ c .before .before .before .before .before .before .loop .inv .1) (λ w. sym (missingIn-row _ _ _ (c .before .before .before .before .before .loop-test .taken) (c .before .before .before .part .ensures ∙ parent-packed _ (c .before .before .before .before .line-at .ensures)) _ (c .before .before .part2 .result) (ap (λ (m : ℕ). eqb m 1) (c .before .before .part2 .ensures) ∙ need-packed _ (c .before .before .before .before .line-at .ensures)) (c .before .part3 .ensures ∙ list-packed _ (c .before .before .before .before .line-at .ensures)) (w .left)) ∙ c .before .before .before .before .before .before .loop .inv .1)) (c .if1 .came)))
-    (λ c. missingIn-none _ _ _ _ (omega arith) ∙ c .before .loop .inv .1))
+    (λ c. (omega arith, omega arith, sym (lacksIn-other _ _ (c .before .before .loop-test .taken) _ _ (c .before .lacks-at .ensures) (c .if1 .left)) ∙ c .before .before .before .loop .inv .2))
+    (λ c. lacksIn-none _ _ _ _ (omega arith) ∙ c .before .loop .inv .2))

@@ -4,37 +4,37 @@
 use borrow.Author.Needs.{needs}
 use mathlib.Core.Path.{_≡_, refl, sym, _∙_}
 use borrow.Author.Tests.{ne-eqb}
-use Rattle.elements.specs.Places.{lacksMust, missingIn, lineAt}
+use Rattle.elements.specs.Places.{lacksMust, missingIn, lacksIn, lineAt}
 use Rattle.elements.proofs.LawsTypes.{lines, table-lines}
 use Rattle.elements.proofs.types.lacks_must.Statement.{statement}
 use Rattle.elements.proofs.types.lacks_must.Tie as tie
 
 returns : tie.Need-returns
-unfolding lacksMust missingIn lineAt lines
+unfolding lacksMust missingIn lacksIn lineAt lines
 returns c = c .lacks-between .ensures ∙ sym (simp (c .before .match .keys1, table-lines))
 
 returns-2 : tie.Need-returns-2
-unfolding lacksMust missingIn lineAt lines
+unfolding lacksMust missingIn lacksIn lineAt lines
 returns-2 c = c .lacks-between2 .ensures ∙ sym (simp (c .before .match .keys2, table-lines))
 
 returns-3 : tie.Need-returns-3
-unfolding lacksMust missingIn lineAt lines
+unfolding lacksMust missingIn lacksIn lineAt lines
 returns-3 c = c .lacks-between3 .ensures ∙ sym (simp (c .before .match .keys3, table-lines))
 
 returns-4 : tie.Need-returns-4
-unfolding lacksMust missingIn lineAt lines
+unfolding lacksMust missingIn lacksIn lineAt lines
 returns-4 c = c .lacks-between4 .ensures ∙ sym (simp (c .before .match .keys4, table-lines))
 
 returns-5 : tie.Need-returns-5
-unfolding lacksMust missingIn lineAt lines
+unfolding lacksMust missingIn lacksIn lineAt lines
 returns-5 c = c .lacks-between5 .ensures ∙ sym (simp (c .before .match .keys5, table-lines))
 
 returns-6 : tie.Need-returns-6
-unfolding lacksMust missingIn lineAt lines
+unfolding lacksMust missingIn lacksIn lineAt lines
 returns-6 c = c .lacks-between6 .ensures ∙ sym (simp (c .before .match .keys6, table-lines))
 
 returns-7 : tie.Need-returns-7
-unfolding lacksMust missingIn lineAt lines
+unfolding lacksMust missingIn lacksIn lineAt lines
 returns-7 c =
     sym (simp (table-lines, ne-eqb _ _ (λ e. c .match .rest .1 (sym e)), ne-eqb _ _ (λ e. c .match .rest .0 .1 (sym e)), ne-eqb _ _ (λ e. c .match .rest .0 .0 .1 (sym e)), ne-eqb _ _ (λ e. c .match .rest .0 .0 .0 .1 (sym e)), ne-eqb _ _ (λ e. c .match .rest .0 .0 .0 .0 .1 (sym e)), ne-eqb _ _ (λ e. c .match .rest .0 .0 .0 .0 .0 .1 (sym e))))
 
