@@ -1,7 +1,7 @@
 // What a host does with the modem record: tell it an event, ask whether it transmits and forwards.
 //
 // `dsg_empty_modem`, `dsg_event`, `dsg_transmits` and `dsg_forwards`. An event is a number and four
-// arguments; one that names none only moves the clock.
+// arguments; at one that names none only the clock and the running timers move.
 ghost use mathlib.Core.Path.{_≡_};
 ghost use Rattle.modem_record.specs.Record.{transmits, forwards, emptyModem};
 ghost use Rattle.dsg_events.specs.Events.{eventStepped};

@@ -1,6 +1,6 @@
 // The answer to an event as a number, for a modem record by value.
 //
-// `event_value`. An event is a number and four arguments; one that names none only moves the clock.
+// `event_value`. An event is a number and four arguments; at one that names none only the clock and the running timers move.
 ghost use mathlib.Core.Path.{_≡_};
 ghost use Rattle.dsg_events.specs.Events.{eventStepped};
 use modem_record::Modem;

@@ -1,7 +1,7 @@
 // Tests one top-level element of a message and everything in it: refusals 6 to 13 of document 01, and where.
 //
-// One public function, `test_element`, which takes any message, any place and any tally: a refusal is
-// an answer. It takes nothing up and writes nothing.
+// Two public functions. `test_element` takes any message, any place and any tally: a refusal is an answer.
+// It takes nothing up and writes nothing. `empty_tally` is the tally to begin with.
 //
 // The element reader calls the row reader for a value that is a row, and the row reader calls it back for
 // each child; the bytes left fall at each call. The row reader is a loop, so the calls are only as deep as
