@@ -22,10 +22,10 @@
  * compare records field by field.
  *
  * Memory that a board needs: the records below and two buffers of DSG_BUFFER_BYTES, some 55,000 bytes. Stack, as
- * examples/stack.c measures it: dsg_receive 93,000 bytes, dsg_read 66,000, dsg_list_body 141,000, dsg_empty_table 29,000,
- * dsg_list_table 21,000, dsg_judge 26,000, dsg_prepare 23,000, dsg_choose 13,000; what runs for each frame and event
- * (dsg_judge_prepared, dsg_event, dsg_transmits, dsg_forwards) and dsg_collect under 1,000. Of the C library only
- * memcpy, memset and the like are called.
+ * examples/stack.c measures it: dsg_list_body 141,000 bytes, dsg_receive 93,000, dsg_read 66,000, dsg_empty_table 29,000,
+ * dsg_judge 26,000, dsg_prepare 23,000, dsg_list_table 21,000, dsg_choose 13,000, dsg_collect 4,000; what runs for each
+ * frame and event (dsg_judge_prepared, dsg_event, dsg_transmits, dsg_forwards) under 200. Of the C library only memcpy,
+ * memmove, memset and the like are called.
  */
 #ifndef DSG_H
 #define DSG_H
