@@ -197,7 +197,7 @@ struct dsg_modem {
 };
 
 /* Records to begin with: nothing collected, the table of the empty message, an idle modem.
- * Definitions: collector/specs/Step emptyCollection, table/specs/Table emptyTable, modem/specs/Record emptyModem. */
+ * Definitions: collector/specs/Step emptyCollection, table/specs/Table emptyTable, modem_record/specs/Record emptyModem. */
 struct dsg_collection dsg_empty_collection(void);
 struct dsg_table dsg_empty_table(void);
 struct dsg_modem dsg_empty_modem(void);
@@ -333,7 +333,7 @@ uint32_t dsg_event(struct dsg_modem *modem, uint32_t clock, uint8_t event, uint1
                    uint16_t d);
 
 /* Whether the transmitter is on, and whether tunnels are forwarded. Lent: the modem. Nothing is written.
- * Definition: modem/specs/Record transmits, forwards. */
+ * Definition: modem_record/specs/Record transmits, forwards. */
 bool dsg_transmits(const struct dsg_modem *modem);
 bool dsg_forwards(const struct dsg_modem *modem);
 
