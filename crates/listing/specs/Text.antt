@@ -7,7 +7,7 @@
 --   tableText          the listing of a table under its change count: every rule, classifier and channel, in table order
 --   refusalText, waitingText                                        the listings of a refusal and of an unfinished collection
 --
--- Lists are read by the counts of specs/Table.antt, so any lent table has a listing. A tunnel number of 2^48 or more, which no
+-- Lists are read by the counts of specs/Table.antt of table, so any lent table has a listing. A tunnel number of 2^48 or more, which no
 -- message gives, shows its low 48 bits. A channel that no message gives is shown as it stands.
 -- Tested by: document 01's example in proofs/Bench.antt; the samples of examples/; random bodies against the other program.
 -- Trusts: nothing.

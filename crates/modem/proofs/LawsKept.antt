@@ -1,4 +1,4 @@
--- Laws of well-kept records (specs/Record.antt): what the test says, as claims.
+-- Laws of well-kept records (specs/Record.antt of modem_record): what the test says, as claims.
 --
 --   Kept m             what `wellKept m` says, claim by claim;  wellKept→Kept, Kept→wellKept
 --   countsIdle→Kept    a record that does not count as Idle is well kept

@@ -1,4 +1,4 @@
--- Laws of the rows (specs/Events.antt): each row keeps a well-kept record well kept.
+-- Laws of the rows (specs/Events.antt of modem_rows): each row keeps a well-kept record well kept.
 --
 --   Fits m         timer values are 16 bits wide, as the record's type says
 --   either         a claim of a test's two arms

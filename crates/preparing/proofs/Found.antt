@@ -1,4 +1,4 @@
--- The first match of the ordered classifiers and the best match of the table are one (specs/Judge.antt, specs/Order.antt).
+-- The first match of the ordered classifiers and the best match of the table are one (specs/Judge.antt of tunnel, specs/Order.antt).
 --
 --   Decided t rule frame   both find a classifier, with the same number, or neither finds one
 --   decided                it is always so
