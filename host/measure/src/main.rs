@@ -7,7 +7,7 @@ use dsg::records::Client;
 use dsg::{Collection, Event, Modem, Table, Tunnel, BUFFER_BYTES};
 use measure::inputs::{frame, long_rows, sixteen_bodies, table_message, unlisted, LONGEST};
 use measure::plain;
-use measure::rounds::{report, runner};
+use measure::rounds::{medians, print_line, report, runner};
 use std::hint::black_box;
 
 /// The client that only rule `n` of the measured tables lists.
@@ -86,18 +86,21 @@ fn collecting() {
     );
 }
 
+/// A record and two buffers that hold these bodies.
+fn collected(bodies: &[Vec<u8>]) -> (Collection, Vec<u8>, Vec<u8>) {
+    let (mut slots, mut join) = (vec![0u8; BUFFER_BYTES], vec![0u8; BUFFER_BYTES]);
+    let mut held = Collection::default();
+    for body in bodies {
+        ffi::collect(&mut held, &mut slots, &mut join, body);
+    }
+    (held, slots, join)
+}
+
 /// A repeated piece, and the same bytes compared.
 fn repeating() {
     let bodies = sixteen_bodies(&long_rows());
-    let collected = || {
-        let (mut slots, mut join) = (vec![0u8; BUFFER_BYTES], vec![0u8; BUFFER_BYTES]);
-        let mut held = Collection::default();
-        for body in &bodies {
-            ffi::collect(&mut held, &mut slots, &mut join, body);
-        }
-        (held, slots, join)
-    };
-    let ((mut h1, mut s1, mut j1), (mut h2, mut s2, mut j2)) = (collected(), collected());
+    let ((mut h1, mut s1, mut j1), (mut h2, mut s2, mut j2)) =
+        (collected(&bodies), collected(&bodies));
     let slot = s1[..1497].to_vec();
     report(
         "a repeated piece of 1,497 bytes",
@@ -124,6 +127,51 @@ fn repeating() {
             }),
         ],
     );
+}
+
+/// The sixteen pieces of a message once more, and the same bytes compared. What the record takes by itself is
+/// the time for sixteen empty pieces once more: the second line is without it.
+fn repeating_all() {
+    let full = sixteen_bodies(&long_rows());
+    let empty: Vec<Vec<u8>> = (1..=16).map(|sequence| vec![7, 16, sequence]).collect();
+    let mut library = [collected(&full), collected(&empty)];
+    let mut plain = [collected(&full), collected(&empty)];
+    let [(h1, s1, j1), (h2, s2, j2)] = &mut library;
+    let [(h3, s3, j3), (h4, s4, j4)] = &mut plain;
+    let slots = s1.clone();
+    let times = medians(&mut [
+        runner("library", || again(&full, |b| ffi::collect(h1, s1, j1, b))),
+        runner("library", || again(&empty, |b| ffi::collect(h2, s2, j2, b))),
+        runner("plain", || {
+            again(&full, |b| plain::collect::collect(h3, s3, j3, b))
+        }),
+        runner("plain", || {
+            again(&empty, |b| plain::collect::collect(h4, s4, j4, b))
+        }),
+        runner("memcmp", || {
+            for (k, body) in full.iter().enumerate() {
+                let piece = black_box(&body[3..]);
+                black_box(*piece == black_box(&slots)[k * 1500..k * 1500 + piece.len()]);
+            }
+        }),
+    ]);
+    let all = |name, k: usize| (name, times[k]);
+    let bytes = |name, k: usize| (name, times[k] - times[k + 1]);
+    print_line(
+        "sixteen repeated pieces of 1,497 bytes",
+        &[all("library", 0), all("plain", 2), all("memcmp", 4)],
+    );
+    print_line(
+        "their comparison, without the record's work",
+        &[bytes("library", 0), bytes("plain", 2), all("memcmp", 4)],
+    );
+}
+
+/// Each body once.
+fn again<T>(bodies: &[Vec<u8>], mut take: impl FnMut(&[u8]) -> T) {
+    for body in bodies {
+        black_box(take(black_box(body)));
+    }
 }
 
 fn choosing(rules: u8) {
@@ -310,6 +358,7 @@ fn reading_all() {
 fn collecting_all() {
     collecting();
     repeating();
+    repeating_all();
 }
 
 fn judging_all() {

@@ -61,16 +61,23 @@ fn median(mut samples: Vec<f64>) -> f64 {
 /// Measures the runners and prints a line: each one's time, and the first one's ratio to each other.
 /// `per` is how many pieces of work a call does.
 pub fn report(what: &str, per: usize, mut runners: Vec<Runner>) {
-    let times: Vec<f64> = medians(&mut runners)
+    let times = medians(&mut runners);
+    let named: Vec<(&str, f64)> = runners
         .iter()
-        .map(|t| t / per as f64)
+        .zip(&times)
+        .map(|(runner, time)| (runner.name, time / per as f64))
         .collect();
+    print_line(what, &named);
+}
+
+/// Prints a line of named times, in nanoseconds, and the first one's ratio to each other.
+pub fn print_line(what: &str, times: &[(&str, f64)]) {
     let mut line = format!("{what:<44}");
-    for (runner, time) in runners.iter().zip(&times) {
-        line += &format!("  {} {:>9}", runner.name, nanoseconds(*time));
+    for (name, time) in times {
+        line += &format!("  {name} {:>9}", nanoseconds(*time));
     }
-    for (runner, time) in runners.iter().zip(&times).skip(1) {
-        line += &format!("  {:.2} x {}", times[0] / time, runner.name);
+    for (name, time) in &times[1..] {
+        line += &format!("  {:.2} x {name}", times[0].1 / time);
     }
     println!("{line}");
 }
