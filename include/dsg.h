@@ -197,7 +197,7 @@ struct dsg_modem {
 };
 
 /* Records to begin with: nothing collected, the table of the empty message, an idle modem.
- * Definitions: collector/specs/Step emptyCollection, table/specs/Table emptyTable, modem_record/specs/Record emptyModem. */
+ * Definitions: collection/specs/Record emptyCollection, table/specs/Table emptyTable, modem_record/specs/Record emptyModem. */
 struct dsg_collection dsg_empty_collection(void);
 struct dsg_table dsg_empty_table(void);
 struct dsg_modem dsg_empty_modem(void);

@@ -14,7 +14,7 @@ use mathlib.Core.List.{List}
 use lib.ListN.{getD, replicate}
 use Rattle.table.specs.declared.Table.{Table}
 use Rattle.table.specs.Table.{emptyTable}
-use Rattle.collector.specs.Step.{emptyCollection}
+use Rattle.collection.specs.Record.{emptyCollection}
 use Rattle.receiver.specs.Receive.{Told, bodyRefused, again, waiting, accepted, messageRefused, Had, receiveStep}
 use Rattle.listing.specs.Text.{tableText, refusalText, waitingText}
 

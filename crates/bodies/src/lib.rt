@@ -35,7 +35,7 @@ fn receive_alone(body: &[u8]) -> Received
 {
     let mut slots = zero_buffer();
     let mut join = zero_buffer();
-    let held = collector::empty_collection();
+    let held = collection::empty_collection();
     let table = table::empty_table();
     receiver::receive(held, table, &mut slots, &mut join, body)
 }

@@ -1,63 +1,19 @@
--- Laws of the slots and the buffers (specs/Pieces.antt).
+-- Laws of the pieces in the slot buffer (specs/Pieces.antt).
 --
---   emptySlots-le, emptySlots-lt     at most n are empty; fewer where one is filled
---   soundTo-at, soundTo-all          what it says of each slot; from each slot
---   slotSound-len                    a sound slot is not too long
 --   length-pieceAt, length-joined    a piece as long as its slot says; the joined pieces at most n x 1,497
 --   joined-at, joined-more           one turn of the loop that joins
 --   pieceAt-same, pieceAt-other      the slots after a piece is stored
 -- Trusts: nothing.
 use Prim.Native.Nat.{ℕ, zero, suc, _+_, _*_, _-_, _≤_, _<_}
 use mathlib.Core.Path.{_≡_, refl, sym, ap, _∙_}
-use mathlib.Core.Bool.{Bool, true, false, cond, _&&_}
-use mathlib.Core.List.{List, [], _∷_, _++_, append-assoc}
+use mathlib.Core.List.{List, _++_, append-assoc}
 use mathlib.Core.Logic.{_⊎_, inl, inr, ⊎-elim}
 use native.Mathlib.Omega.{arith}
-use native.Mathlib.Nat.{eq-or-lt-of-le, le-of-suc-le-suc}
-use borrow.Author.Tests.{leb-true}
 use lib.ListN.{length, getD, set, take, drop, length-append, length-take, length-drop}
 use lib.Seq.{length-take-le, drop-append-add, drop-drop, take-at, getD-set-same, getD-set-other}
-use lib.Dec.{ltb, leb, eqb}
 use Rattle.wire.specs.Bytes.{pasted}
-use Rattle.wire.proofs.Laws.{both, pasted-fits, part-pasted, part-pasted-before, part-pasted-behind}
-use Rattle.collector.specs.Pieces.{isFilled, emptySlots, slotSound, soundTo, pieceAt, joined}
-
--- ---- the slots of a record
-
-pub one-le : (t : Bool) → cond t 1 0 ≤ 1
-one-le true = omega arith
-one-le false = omega arith
-
-pub emptySlots-le : (f : List ℕ) (n : ℕ) → emptySlots f n ≤ n
-unfolding emptySlots
-emptySlots-le f zero = omega arith
-emptySlots-le f (suc n) = omega (arith, emptySlots-le f n, one-le (eqb (getD f n 0) 0))
-
-pub emptySlots-lt : (f : List ℕ) (k n : ℕ) → getD f k 0 ≡ 1 → k < n → emptySlots f n < n
-unfolding emptySlots
-emptySlots-lt f k zero e q = absurd (omega arith)
-emptySlots-lt f k (suc n) e q = ⊎-elim
-    (λ (x : k ≡ n). let z : getD f n 0 ≡ 1 = rw x at e in rw z (omega (arith, emptySlots-le f n)))
-    (λ (x : k < n). omega (arith, emptySlots-lt f k n e x, one-le (eqb (getD f n 0) 0)))
-    (eq-or-lt-of-le (le-of-suc-le-suc q))
-
-pub soundTo-at : (f l : List ℕ) (n m k : ℕ) → soundTo f l n m ≡ true → k < m → slotSound (getD f k 0) (getD l k 0) k n ≡ true
-unfolding soundTo
-soundTo-at f l n zero k h p = absurd (omega arith)
-soundTo-at f l n (suc m) k h p =
-    let hs = both (soundTo f l n m) (slotSound (getD f m 0) (getD l m 0) m n) h in
-    ⊎-elim (λ e. rw e (hs .1)) (λ q. soundTo-at f l n m k (hs .0) q) (eq-or-lt-of-le (le-of-suc-le-suc p))
-
-pub soundTo-all : (f l : List ℕ) (n m : ℕ) → ((k : ℕ) → k < m → slotSound (getD f k 0) (getD l k 0) k n ≡ true) → soundTo f l n m ≡ true
-unfolding soundTo
-soundTo-all f l n zero h = refl
-soundTo-all f l n (suc m) h = rw (soundTo-all f l n m (λ k q. h k (omega arith)), h m (omega arith)) refl
-
-pub slotSound-len : (flag len k n : ℕ) → slotSound flag len k n ≡ true → len ≤ 1497
-slotSound-len flag len k n h = go (isFilled flag) (leb-true _ _ (both (leb flag (cond (ltb k n) 1 0)) _ h .1)) where
-  go : (t : Bool) → len ≤ cond t 1497 0 → len ≤ 1497
-  go true g = g
-  go false g = omega arith
+use Rattle.wire.proofs.Laws.{pasted-fits, part-pasted, part-pasted-before, part-pasted-behind}
+use Rattle.collector.specs.Pieces.{pieceAt, joined}
 
 -- ---- the pieces in the slot buffer, joined
 

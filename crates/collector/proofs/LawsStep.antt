@@ -1,65 +1,28 @@
--- Laws of one step (specs/Step.antt): what the tests leave, what the piece is added to, and one law for each answer of `collect`.
+-- Laws of one step (specs/Step.antt): what the piece is added to, and one law for each answer of `collect`.
 --
---   fits-of                what a body that is not refused is like
---   refusalOf-room         the buffers are long enough, and the body's own tests are passed
---   wellMade-short, isOf-short    a well-made record has no length over 1,497
 --   relationOf-goesOn      where the body goes on, the record is well made and its number the body's
 --   baseOf-number, baseOf-short, from-number, from-short    the record that the piece is noted in
 --   set-bound              a length more that keeps the bound
 --   step-refused, step-again, step-stored, step-waiting, step-alone, step-joined    each answer of the code, as the step has it
 -- Trusts: nothing.
-use Prim.Native.Nat.{ℕ, zero, suc, _+_, _*_, _-_, _≤_, _<_}
-use mathlib.Core.Path.{_≡_, refl, sym, ap, _∙_}
-use mathlib.Core.Bool.{Bool, true, false, cond, _&&_, _||_}
+use Prim.Native.Nat.{ℕ, zero, suc, _+_, _-_, _≤_, _<_}
+use mathlib.Core.Path.{_≡_, refl}
+use mathlib.Core.Bool.{Bool, true, false, cond}
 use mathlib.Core.List.{List, [], _∷_, _++_}
 use native.Mathlib.Omega.{arith}
-use borrow.Author.Tests.{eqb-true, eqb-false, eq-eqb, ne-eqb, ltb-false, leb-true}
-use lib.ListN.{length, getD, set, replicate, getD-replicate, take, drop}
-use lib.Dec.{ltb, leb, eqb}
-use Rattle.wire.specs.Bytes.{pasted, sameBytes}
+use borrow.Author.Tests.{eqb-true, eq-eqb, ne-eqb}
+use lib.ListN.{length, getD, set, getD-replicate, drop}
+use lib.Dec.{eqb}
+use Rattle.wire.specs.Bytes.{sameBytes}
 use Rattle.wire.proofs.Laws.{both}
-use Rattle.collector.specs.Answers.{Said, refused, again, waiting, complete}
-use Rattle.collector.specs.Pieces.{isFilled, emptySlots, soundTo, pieceAt, joined}
-use Rattle.collector.specs.Step.{countOf, numberOf, slotOf, pieceOf, bodyRefusal, refusalOf, wellMade, isOf, goesOn, repeats, anew, relationOf, emptyCollection, baseOf, noted, After, after, finished, accepted, collectStep}
-use Rattle.collector.specs.Duties.{Fits, storedStep}
-use Rattle.collector.specs.declared.Collection.{Collection}
-use Rattle.collector.proofs.Laws.{soundTo-at, slotSound-len}
-
--- ---- the tests of a body
-
--- a test that was passed, and what follows it
-passed : (b : Bool) (x y : ℕ) → cond b (suc x) y ≡ 0 → (b ≡ false) × (y ≡ 0)
-passed true x y h = absurd (omega arith)
-passed false x y h = (refl, h)
-
-neither : (a b : Bool) → (a || b) ≡ false → (a ≡ false) × (b ≡ false)
-neither true b h = absurd (let z : _≡_ {A = ℕ} 0 1 = cc in omega arith)
-neither false b h = (refl, h)
-
-pub fits-of : (body : List ℕ) → bodyRefusal body ≡ 0 → Fits body
-unfolding bodyRefusal
-fits-of body h =
-    let p2 = passed (ltb (length body) 3) _ _ h in
-    let p3 = passed (ltb 1500 (length body)) _ _ (p2 .1) in
-    let p4 = passed (eqb (getD body 1 0) 0 || ltb 16 (getD body 1 0)) _ _ (p3 .1) in
-    let p5 = passed (eqb (getD body 2 0) 0 || ltb (getD body 1 0) (getD body 2 0)) _ _ (p4 .1) in
-    let n = neither (eqb (getD body 1 0) 0) (ltb 16 (getD body 1 0)) (p4 .0) in
-    let s = neither (eqb (getD body 2 0) 0) (ltb (getD body 1 0) (getD body 2 0)) (p5 .0) in
-    let ne = eqb-false (getD body 2 0) 0 (s .0) in
-    record {
-      head = ltb-false (length body) 3 (p2 .0);
-      most = ltb-false 1500 (length body) (p3 .0);
-      first = omega arith;
-      last = ltb-false (getD body 1 0) (getD body 2 0) (s .1);
-      few = ltb-false 16 (getD body 1 0) (n .1);
-    }
-
-pub refusalOf-room : (slots join : ℕ) (body : List ℕ) → refusalOf slots join body ≡ 0 → (24000 ≤ slots) × (24000 ≤ join) × (bodyRefusal body ≡ 0)
-unfolding refusalOf
-refusalOf-room slots join body h =
-    let p = passed (ltb slots 24000 || ltb join 24000) _ _ h in
-    let r = neither (ltb slots 24000) (ltb join 24000) (p .0) in
-    (ltb-false slots 24000 (r .0), ltb-false join 24000 (r .1), p .1)
+use Rattle.collector.specs.Answers.{refused, again, waiting, complete}
+use Rattle.collection.specs.Record.{isFilled, emptySlots, wellMade, isOf, emptyCollection}
+use Rattle.collector.specs.Pieces.{pieceAt, joined}
+use Rattle.collection.specs.Refusals.{countOf, numberOf, slotOf, pieceOf, refusalOf}
+use Rattle.collector.specs.Step.{goesOn, repeats, anew, relationOf, baseOf, noted, After, after, finished, accepted, collectStep}
+use Rattle.collector.specs.Duties.{storedStep}
+use Rattle.collection.specs.declared.Collection.{Collection}
+use Rattle.collection.proofs.Laws.{wellMade-short}
 
 -- ---- the record
 
@@ -70,16 +33,6 @@ set-bound (x ∷ xs) zero a zero b h k = k
 set-bound (x ∷ xs) zero a (suc j) b h k = h
 set-bound (x ∷ xs) (suc i) a zero b h k = h
 set-bound (x ∷ xs) (suc i) a (suc j) b h k = set-bound xs i a j b h k
-
-pub wellMade-short : (r : Collection) → wellMade r ≡ true → (k : ℕ) → k < 16 → getD (r .lengths) k 0 ≤ 1497
-unfolding wellMade
-wellMade-short r h k p =
-    let s = both (soundTo (r .filled) (r .lengths) (r .number) 16) _ (both (leb (r .number) 16) _ h .1) in
-    slotSound-len (getD (r .filled) k 0) (getD (r .lengths) k 0) k (r .number) (soundTo-at (r .filled) (r .lengths) (r .number) 16 k (s .0) p)
-
-pub isOf-short : (r : Collection) (count number : ℕ) → isOf r count number ≡ true → (k : ℕ) → k < 16 → getD (r .lengths) k 0 ≤ 1497
-unfolding isOf
-isOf-short r count number h = wellMade-short r (both (wellMade r) _ h .0)
 
 goes-on : (a b c : Bool) → cond a (cond b (cond c repeats anew) goesOn) anew ≡ goesOn → a ≡ true
 goes-on true b c h = refl

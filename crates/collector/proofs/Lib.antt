@@ -1,4 +1,4 @@
--- Laws: the slots and the two buffers, on plain values.
--- LawsStep: the tests of a body and of a record, and each answer of the step.
+-- Laws: the pieces in the slot buffer, on plain values.
+-- LawsStep: what the piece is added to, and each answer of the step.
 pub mod Laws
 pub mod LawsStep

@@ -16,9 +16,11 @@ use native.Mathlib.Omega.{arith}
 use lib.ListN.{length, getD, take, drop, replicate, take-append-drop}
 use Rattle.wire.specs.Bytes.{sameBytes}
 use Rattle.collector.specs.Answers.{refused, again, waiting, complete, lentOf}
-use Rattle.collector.specs.Pieces.{soundTo, emptySlots, pieceAt}
-use Rattle.collector.specs.Step.{bodyRefusal, refusalOf, wellMade, isOf, relationOf, emptyCollection, accepted, collectStep}
-use Rattle.collector.specs.declared.Collection.{Collection}
+use Rattle.collection.specs.Record.{soundTo, emptySlots, wellMade, isOf, emptyCollection}
+use Rattle.collector.specs.Pieces.{pieceAt}
+use Rattle.collection.specs.Refusals.{bodyRefusal, refusalOf}
+use Rattle.collector.specs.Step.{relationOf, accepted, collectStep}
+use Rattle.collection.specs.declared.Collection.{Collection}
 use Rattle.collector_demands.specs.Runs.{accepts, lookup, continues, runOf, missing, message, reply, replyOf}
 use Rattle.collector_demands.specs.Demand.{Lent, lentAfter, replyTo, isComplete, completions, concat, Cutting, bodyOf, Arrived, none, other, piece, Came, Apart, Demand3}
 use Rattle.collector_demands.proofs.Refine.{refusalOf-long}

@@ -14,10 +14,11 @@ use borrow.Author.Tests.{eqb-true, ne-eqb}
 use lib.ListN.{length, getD}
 use lib.Dec.{eqb}
 use Rattle.collector.specs.Answers.{Said, refused}
-use Rattle.collector.specs.Pieces.{emptySlots, soundTo}
-use Rattle.collector.specs.Step.{countOf, numberOf, bodyRefusal, refusalOf, wellMade, isOf, anew, relationOf, emptyCollection, baseOf, After, after, accepted, collectStep}
-use Rattle.collector.specs.declared.Collection.{Collection}
-use Rattle.collector.proofs.LawsStep.{refusalOf-room}
+use Rattle.collection.specs.Record.{emptySlots, soundTo, wellMade, isOf, emptyCollection}
+use Rattle.collection.specs.Refusals.{countOf, numberOf, bodyRefusal, refusalOf}
+use Rattle.collector.specs.Step.{anew, relationOf, baseOf, After, after, accepted, collectStep}
+use Rattle.collection.specs.declared.Collection.{Collection}
+use Rattle.collection.proofs.Laws.{refusalOf-room}
 use Rattle.collector_demands.specs.Runs.{accepts, runOf, Reply, reply, replyOf, HeldBy, standsFor, Sized}
 use Rattle.collector_demands.specs.Demand.{Lent, called, lentAfter, told, replyTo, isComplete, completions, Cutting, bodyOf, Arrived, none, other, piece, Came, Apart, Demand3}
 use Rattle.collector_demands.proofs.Refine.{Rep, rep-held, refusalOf-long, step}

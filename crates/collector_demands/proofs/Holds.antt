@@ -18,11 +18,13 @@ use lib.Seq.{getD-set-same, getD-set-other}
 use lib.Dec.{ltb, leb, eqb}
 use Rattle.wire.specs.Bytes.{pasted}
 use Rattle.wire.proofs.Laws.{clash, length-pasted}
-use Rattle.collector.specs.Pieces.{isFilled, emptySlots, slotSound, soundTo, pieceAt, joined}
-use Rattle.collector.specs.Step.{numberOf, slotOf, pieceOf, wellMade, emptyCollection, noted}
-use Rattle.collector.specs.Duties.{Fits}
-use Rattle.collector.specs.declared.Collection.{Collection}
-use Rattle.collector.proofs.Laws.{emptySlots-lt, soundTo-all, pieceAt-same, pieceAt-other}
+use Rattle.collection.specs.Record.{isFilled, emptySlots, slotSound, soundTo, wellMade, emptyCollection}
+use Rattle.collector.specs.Pieces.{pieceAt, joined}
+use Rattle.collection.specs.Refusals.{numberOf, slotOf, pieceOf, Fits}
+use Rattle.collector.specs.Step.{noted}
+use Rattle.collection.specs.declared.Collection.{Collection}
+use Rattle.collection.proofs.Laws.{emptySlots-lt, soundTo-all}
+use Rattle.collector.proofs.Laws.{pieceAt-same, pieceAt-other}
 use Rattle.collector_demands.specs.Runs.{Slot, empty, full, isFull, bytesOf, lookup, missing, message, SlotHas}
 
 -- a slot with what the run has; filled, it is one of the n

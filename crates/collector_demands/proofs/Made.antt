@@ -15,10 +15,12 @@ use borrow.Author.Tests.{eqb-true, eqb-false, eq-eqb, ne-eqb, le-ltb, leb-true, 
 use lib.ListN.{length, getD, take, drop}
 use lib.Dec.{eqb, ltb, leb}
 use Rattle.wire.proofs.Laws.{both, clash}
-use Rattle.collector.specs.Pieces.{isFilled, emptySlots, slotSound, soundTo, pieceAt}
-use Rattle.collector.specs.Step.{countOf, numberOf, slotOf, pieceOf, bodyRefusal, wellMade}
-use Rattle.collector.specs.declared.Collection.{Collection}
-use Rattle.collector.proofs.Laws.{soundTo-at, length-pieceAt, length-pieceAt-le}
+use Rattle.collection.specs.Record.{isFilled, emptySlots, slotSound, soundTo, wellMade}
+use Rattle.collector.specs.Pieces.{pieceAt}
+use Rattle.collection.specs.Refusals.{countOf, numberOf, slotOf, pieceOf, bodyRefusal}
+use Rattle.collection.specs.declared.Collection.{Collection}
+use Rattle.collection.proofs.Laws.{soundTo-at}
+use Rattle.collector.proofs.Laws.{length-pieceAt, length-pieceAt-le}
 use Rattle.collector_demands.specs.Runs.{Slot, empty, full, isFull, bytesOf, accepts, lookup, takes, continues, runOf, SlotHas, bodyIn, bodiesTo, standsFor, Sized}
 use Rattle.collector_demands.proofs.Holds.{Has, Slots}
 use Rattle.collector_demands.proofs.Refine.{Rep, idle, busy}

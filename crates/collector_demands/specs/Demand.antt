@@ -21,8 +21,10 @@ use mathlib.Core.List.{List, [], _∷_, _++_}
 use mathlib.Core.Logic.{_⊎_}
 use lib.ListN.{length, getD}
 use Rattle.collector.specs.Answers.{Said, refused, again, waiting, complete, lentOf}
-use Rattle.collector.specs.Step.{bodyRefusal, wellMade, After, collectStep}
-use Rattle.collector.specs.declared.Collection.{Collection}
+use Rattle.collection.specs.Record.{wellMade}
+use Rattle.collection.specs.Refusals.{bodyRefusal}
+use Rattle.collector.specs.Step.{After, collectStep}
+use Rattle.collection.specs.declared.Collection.{Collection}
 use Rattle.collector_demands.specs.Runs.{Reply, reply}
 
 pub record Lent : Type 0 where

@@ -20,9 +20,10 @@ use lib.ListN.{length, getD}
 use lib.Dec.{eqb}
 use Rattle.wire.specs.Bytes.{sameBytes}
 use Rattle.collector.specs.Answers.{Said, refused, again, waiting, complete}
-use Rattle.collector.specs.Pieces.{isFilled, pieceAt}
-use Rattle.collector.specs.Step.{countOf, numberOf, slotOf, pieceOf, bodyRefusal, wellMade}
-use Rattle.collector.specs.declared.Collection.{Collection}
+use Rattle.collection.specs.Record.{isFilled, wellMade}
+use Rattle.collector.specs.Pieces.{pieceAt}
+use Rattle.collection.specs.Refusals.{countOf, numberOf, slotOf, pieceOf, bodyRefusal}
+use Rattle.collection.specs.declared.Collection.{Collection}
 
 -- a slot: empty, or full with these bytes
 pub data Slot : Type 0 where

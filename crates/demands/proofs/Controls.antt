@@ -34,8 +34,10 @@ use Rattle.modem.specs.declared.Stepped.{Stepped}
 use Rattle.modem.specs.Step.{steppedModem}
 use Rattle.modem.proofs.Controls as modem
 use Rattle.collector.specs.Answers.{waiting}
-use Rattle.collector.specs.Step.{numberOf as pieces, wellMade, After}
-use Rattle.collector.specs.declared.Collection.{Collection}
+use Rattle.collection.specs.Record.{wellMade}
+use Rattle.collection.specs.Refusals.{numberOf as pieces}
+use Rattle.collector.specs.Step.{After}
+use Rattle.collection.specs.declared.Collection.{Collection}
 use Rattle.collector_demands.specs.Runs.{accepts, lookup, runOf, missing, Reply}
 use Rattle.collector_demands.specs.Demand.{Lent, isComplete}
 use Rattle.collector_demands.proofs.Controls as collector

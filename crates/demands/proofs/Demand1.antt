@@ -23,10 +23,12 @@ use lib.ListN.{length, getD, drop}
 use lib.Dec.{eqb, ltb}
 use Rattle.wire.specs.Bytes.{pasted}
 use Rattle.collector.specs.Answers.{Said, refused, again, waiting, complete, lentOf}
-use Rattle.collector.specs.Pieces.{emptySlots, joined}
-use Rattle.collector.specs.Step.{numberOf, slotOf, pieceOf, bodyRefusal, refusalOf, relationOf, repeats, baseOf, noted, After, after, finished, accepted, collectStep}
+use Rattle.collection.specs.Record.{emptySlots}
+use Rattle.collector.specs.Pieces.{joined}
+use Rattle.collection.specs.Refusals.{numberOf, slotOf, pieceOf, bodyRefusal, refusalOf}
+use Rattle.collector.specs.Step.{relationOf, repeats, baseOf, noted, After, after, finished, accepted, collectStep}
 use Rattle.lending.specs.Lent.{LentAfter, lentStep}
-use Rattle.collector.specs.declared.Collection.{Collection}
+use Rattle.collection.specs.declared.Collection.{Collection}
 use Rattle.table.specs.declared.Table.{Table}
 use Rattle.elements.specs.Elements.{headAt}
 use Rattle.elements.specs.declared.Head.the-variants as head

@@ -21,7 +21,7 @@ use lib.ListN.{length}
 use lib.Dec.{eqb}
 use Rattle.collector.specs.Answers.{Said, refused, again, waiting, complete}
 use Rattle.collector.specs.Step.{After, collectStep}
-use Rattle.collector.specs.declared.Collection.{Collection}
+use Rattle.collection.specs.declared.Collection.{Collection}
 use Rattle.table.specs.declared.Table.{Table}
 use Rattle.reader.specs.Read.{numberOf, offsetOf, readTable}
 use Rattle.reader.specs.declared.Verdict.{Verdict}

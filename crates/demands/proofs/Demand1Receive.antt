@@ -13,7 +13,7 @@ use native.Mathlib.Omega.{arith}
 use lib.ListN.{length}
 use Rattle.collector.specs.Answers.{Said, refused, again, waiting, complete, lentOf}
 use Rattle.collector.specs.Step.{After, collectStep}
-use Rattle.collector.specs.declared.Collection.{Collection}
+use Rattle.collection.specs.declared.Collection.{Collection}
 use Rattle.table.specs.declared.Table.{Table}
 use Rattle.reader.specs.Read.{readTable}
 use Rattle.reader.specs.declared.Verdict.{Verdict}

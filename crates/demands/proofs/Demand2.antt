@@ -12,9 +12,10 @@ use denote.Triple.Entry.{Args, Res}
 use denote.Triple.Clauses.{AtExit}
 use Rattle.demands.proofs.Contract.{Gives, Says, answer}
 use Rattle.collector.specs.Answers.{said, lentOf}
-use Rattle.collector.specs.Step.{emptyCollection, After, collectStep}
+use Rattle.collection.specs.Record.{emptyCollection}
+use Rattle.collector.specs.Step.{After, collectStep}
 use Rattle.lending.specs.Lent.{LentAfter, lentStep}
-use Rattle.collector.proofs.empty_collection.Reads as empty_collection
+use Rattle.collection.proofs.empty_collection.Reads as empty_collection
 use Rattle.collector.proofs.collect.Reads as collect
 use Rattle.collector.proofs.collect.Statement as collect′
 use Rattle.collector.proofs.collect.Met as collect″

@@ -11,7 +11,7 @@ use contract.Lifetimes.{Lfts}
 use denote.Ref.{now}
 use Rattle.demands.proofs.Contract.{Gives, WalkedGives, fixed, answer}
 use Rattle.table.specs.Table.{emptyTable}
-use Rattle.collector.specs.Step.{emptyCollection}
+use Rattle.collection.specs.Record.{emptyCollection}
 use Rattle.prepared.specs.Prepared.{preparedVerdict}
 use Rattle.preparing.specs.Preparing.{preparedTunnel}
 use Rattle.modem_record.specs.Record.{transmits, forwards, emptyModem}

@@ -15,7 +15,7 @@ use Rattle.collector.specs.Step.{After}
 use Rattle.lending.specs.Lent.{LentAfter}
 use Rattle.modem.specs.declared.Stepped.{Stepped}
 use Rattle.reader.proofs.read_table.Reads as read_table
-use Rattle.collector.proofs.empty_collection.Reads as empty_collection
+use Rattle.collection.proofs.empty_collection.Reads as empty_collection
 use Rattle.collector.proofs.collect.Reads as collect
 use Rattle.lending.proofs.message.Reads as message
 use Rattle.choice.proofs.is_better.Reads as is_better

@@ -25,6 +25,9 @@ use Rattle.rows.proofs.test_element.Reads as test_element
 use Rattle.contents.proofs.rule_at.Reads as rule_at
 use Rattle.contents.proofs.classifier_at.Reads as classifier_at
 use Rattle.contents.proofs.configuration_at.Reads as configuration_at
+use Rattle.collection.proofs.begin.Reads as begin
+use Rattle.collection.proofs.is_of.Reads as is_of
+use Rattle.collection.proofs.refuse.Reads as refuse
 use Rattle.matching.proofs.wrong_length.Reads as wrong_length
 use Rattle.matching.proofs.names_number.Reads as names_number
 use Rattle.matching.proofs.read_packet.Reads as read_packet
@@ -98,6 +101,17 @@ classifier_at-one κs = only (parts.classifier_at-gives κs)
 
 pub configuration_at-one : (κs : Lfts 1) → One answer (configuration_at.Post κs)
 configuration_at-one κs = only (parts.configuration_at-gives κs)
+
+-- ---- collection
+
+pub begin-one : (κs : Lfts 0) → One answer (begin.Post κs)
+begin-one κs = only (parts.begin-gives κs)
+
+pub is_of-one : (κs : Lfts 0) → One answer (is_of.Post κs)
+is_of-one κs = only (parts.is_of-gives κs)
+
+pub refuse-one : (κs : Lfts 1) → One answer (refuse.Post κs)
+refuse-one κs = only (parts.refuse-gives κs)
 
 -- ---- matching
 

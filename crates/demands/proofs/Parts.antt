@@ -1,4 +1,4 @@
--- Parts: what the public functions of the lower crates give (wire, table, elements, rows, contents, matching, listing, bodies): each its definition, for every input.
+-- Parts: what the public functions of the lower crates give (wire, table, elements, rows, contents, collection, matching, listing, bodies): each its definition, for every input.
 --
 -- It says nothing of what the definitions mean; docs/MAP.md says where they stand. `met` of each function, in its own crate, says that the
 -- compiled function meets the contract cited here.
@@ -36,6 +36,11 @@ use Rattle.contents.specs.Configurations.{configurationAt}
 use Rattle.contents.proofs.rule_at.Reads as rule_at
 use Rattle.contents.proofs.classifier_at.Reads as classifier_at
 use Rattle.contents.proofs.configuration_at.Reads as configuration_at
+use Rattle.collection.specs.Record.{isOf, emptyCollection}
+use Rattle.collection.specs.Refusals.{refusalOf}
+use Rattle.collection.proofs.begin.Reads as begin
+use Rattle.collection.proofs.is_of.Reads as is_of
+use Rattle.collection.proofs.refuse.Reads as refuse
 use Rattle.matching.specs.Match.{wrongLength, namesNumber}
 use Rattle.matching.specs.Entry.{packetOf, entryOf, fitsPacket}
 use Rattle.matching.proofs.wrong_length.Reads as wrong_length
@@ -114,6 +119,17 @@ classifier_at-gives κs a x s h = h
 
 pub configuration_at-gives : (κs : Lfts 1) → Gives answer (configuration_at.Post κs) (λ a. configurationAt (now (a .0)) (a .1 .0))
 configuration_at-gives κs a x s h = h
+
+-- ---- collection
+
+pub begin-gives : (κs : Lfts 0) → Gives answer (begin.Post κs) (λ a. emptyCollection (a .0) (a .1 .0))
+begin-gives κs a x s h = h
+
+pub is_of-gives : (κs : Lfts 0) → Gives answer (is_of.Post κs) (λ a. isOf (a .0) (a .1 .0) (a .1 .1 .0))
+is_of-gives κs a x s h = h
+
+pub refuse-gives : (κs : Lfts 1) → Gives answer (refuse.Post κs) (λ a. refusalOf (a .0) (a .1 .0) (now (a .1 .1 .0)))
+refuse-gives κs a x s h = h
 
 -- ---- matching
 

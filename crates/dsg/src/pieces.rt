@@ -3,9 +3,9 @@
 // `dsg_empty_collection`, `dsg_collect` and `dsg_receive`. The message that a body completes is told by its
 // place, in the body or in the join buffer: it is not copied again.
 ghost use mathlib.Core.Path.{_≡_};
-ghost use Rattle.collector.specs.Step.{emptyCollection};
+ghost use Rattle.collection.specs.Record.{emptyCollection};
 ghost use Rattle.dsg_pieces.specs.Bodies.{collectAfter, receiveAfter};
-use collector::Collection;
+use collection::Collection;
 use dsg_pieces::Collected;
 use dsg_pieces::Received;
 use dsg_pieces::collect_value;
@@ -49,5 +49,5 @@ pub extern "C" fn dsg_receive(
 pub extern "C" fn dsg_empty_collection() -> Collection
     ensures { λ r. ⌜ r ≡ emptyCollection 0 0 ⌝ }
 {
-    collector::empty_collection()
+    collection::empty_collection()
 }

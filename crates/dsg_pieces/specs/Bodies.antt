@@ -15,7 +15,7 @@ use mathlib.Core.List.{List}
 use lib.Dec.{eqb}
 use Rattle.collector.specs.Answers.{Said, refused, again, waiting, complete}
 use Rattle.collector.specs.Step.{After, collectStep}
-use Rattle.collector.specs.declared.Collection.{Collection}
+use Rattle.collection.specs.declared.Collection.{Collection}
 use Rattle.table.specs.declared.Table.{Table}
 use Rattle.receiver.specs.Receive as receiver
 use Rattle.receiver.specs.Receive.{Told, Had, receiveStep}

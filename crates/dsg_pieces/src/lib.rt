@@ -6,8 +6,8 @@ ghost use mathlib.Core.Path.{_≡_};
 ghost use Rattle.collector.specs.Answers.{said};
 ghost use Rattle.receiver.specs.Receive.{told};
 ghost use Rattle.dsg_pieces.specs.Bodies.{completeOf, collectedOf, collectAfter, receivedOf, receiveAfter};
+use collection::Collection;
 use collector::Answer;
-use collector::Collection;
 use receiver::Report;
 use table::Table;
 

@@ -12,7 +12,7 @@ use lib.ListN.{length, take, drop}
 use lib.Dec.{eqb}
 use Rattle.collector.specs.Answers.{Said, refused, again, waiting, complete, lentOf, ownOf, joinedOf}
 use Rattle.collector.specs.Step.{After, collectStep}
-use Rattle.collector.specs.declared.Collection.{Collection}
+use Rattle.collection.specs.declared.Collection.{Collection}
 use Rattle.lending.specs.Lent.{LentAfter, lentStep}
 
 -- in one piece the join buffer does not matter, and otherwise the body

@@ -10,7 +10,7 @@ use mathlib.Core.List.{List}
 use lib.ListN.{length, drop}
 use Rattle.collector.specs.Answers.{Said, ownOf, joinedOf}
 use Rattle.collector.specs.Step.{collectStep}
-use Rattle.collector.specs.declared.Collection.{Collection}
+use Rattle.collection.specs.declared.Collection.{Collection}
 
 pub record LentAfter : Type 0 where
   pub answer : Said

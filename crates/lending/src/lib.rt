@@ -9,10 +9,10 @@
 ghost use mathlib.Core.Path.{_≡_};
 ghost use lib.ListN.{length, take, drop};
 ghost use Rattle.collector.specs.Answers.{said, lentOf, ownOf, joinedOf};
-ghost use Rattle.collector.specs.Step.{pieceOf};
+ghost use Rattle.collection.specs.Refusals.{pieceOf};
 ghost use Rattle.lending.specs.Lent.{LentAfter, lentStep};
+use collection::Collection;
 use collector::Answer;
-use collector::Collection;
 use collector::Outcome;
 
 // The first `n` bytes, or all where there are fewer.

@@ -8,7 +8,7 @@ use Prim.Native.Nat.{ℕ}
 use mathlib.Core.Path.{_≡_, refl, sym, ap, _∙_}
 use mathlib.Core.List.{List}
 use Rattle.table.specs.declared.Table.{Table}
-use Rattle.collector.specs.declared.Collection.{Collection}
+use Rattle.collection.specs.declared.Collection.{Collection}
 use Rattle.collector.specs.Answers.{Said, complete, lentOf}
 use Rattle.collector.specs.Step.{After, collectStep}
 use Rattle.reader.specs.Read.{readTable}

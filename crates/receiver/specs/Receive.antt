@@ -13,7 +13,7 @@
 use Prim.Native.Nat.{ℕ}
 use mathlib.Core.List.{List}
 use Rattle.table.specs.declared.Table.{Table}
-use Rattle.collector.specs.declared.Collection.{Collection}
+use Rattle.collection.specs.declared.Collection.{Collection}
 use Rattle.collector.specs.Answers.{Said, lentOf}
 use Rattle.collector.specs.Answers as collected
 use Rattle.collector.specs.Step.{collectStep}

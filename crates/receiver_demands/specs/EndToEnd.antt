@@ -15,7 +15,7 @@ use mathlib.Core.Path.{_≡_}
 use mathlib.Core.List.{List, [], _∷_}
 use lib.ListN.{length}
 use Rattle.table.specs.declared.Table.{Table}
-use Rattle.collector.specs.declared.Collection.{Collection}
+use Rattle.collection.specs.declared.Collection.{Collection}
 use Rattle.collector_demands.specs.Demand.{bodyOf, Arrived, Came}
 use Rattle.reader.specs.Read.{readTable}
 use Rattle.receiver.specs.Receive.{Told, bodyRefused, again, waiting, accepted, messageRefused, reported, Had, receiveStep}

@@ -1,13 +1,14 @@
 -- `collector::accept` gives `storedStep`, by what `store` and `finish` ensure.
 -- Trusts: nothing.
-use mathlib.Core.Path.{_≡_, ap, _∙_}
+use mathlib.Core.Path.{ap, _∙_}
 use mathlib.Core.List.{List}
 use native.Mathlib.Omega.{arith}
 use Prim.Native.Nat.{ℕ, _-_}
 use borrow.Author.Needs.{needs}
 use denote.Ref.{now}
 use lib.ListN.{length}
-use Rattle.collector.specs.Step.{slotOf, noted, finished}
+use Rattle.collection.specs.Refusals.{slotOf}
+use Rattle.collector.specs.Step.{noted, finished}
 use Rattle.collector.proofs.LawsStep.{set-bound}
 use Rattle.collector.proofs.accept.Statement.{statement}
 use Rattle.collector.proofs.accept.Tie as tie

@@ -3,12 +3,12 @@
 use borrow.Author.Needs.{needs}
 use mathlib.Core.Path.{_≡_, sym, _∙_}
 use native.Mathlib.Omega.{arith}
-use Prim.Native.Nat.{ℕ, _-_, _≤_, _<_}
+use Prim.Native.Nat.{_-_, _≤_}
 use denote.Ref.{now}
-use lib.ListN.{length, getD}
-use Rattle.collector.specs.Duties.{Fits}
-use Rattle.collector.specs.Step.{refusalOf}
-use Rattle.collector.proofs.LawsStep.{refusalOf-room, fits-of, step-refused, step-again, step-stored, from-number, from-short}
+use lib.ListN.{length}
+use Rattle.collection.specs.Refusals.{Fits, refusalOf}
+use Rattle.collection.proofs.Laws.{refusalOf-room, fits-of}
+use Rattle.collector.proofs.LawsStep.{step-refused, step-again, step-stored, from-number, from-short}
 use Rattle.collector.proofs.collect.Statement.{statement}
 use Rattle.collector.proofs.collect.Tie as tie
 

@@ -2,12 +2,12 @@
 -- Trusts: nothing.
 use mathlib.Core.Path.{_≡_, refl}
 use mathlib.Core.Logic.{⊎-elim}
-use Prim.Native.Nat.{ℕ, _-_, _≤_}
+use Prim.Native.Nat.{_-_, _≤_}
 use borrow.Author.Tests.{eq-eqb, ne-eqb}
 use native.Mathlib.Omega.{arith}
 use native.Mathlib.Numerals.{add-one}
 use lib.ListN.{getD}
-use Rattle.collector.specs.Pieces.{emptySlots}
+use Rattle.collection.specs.Record.{emptySlots}
 use Rattle.collector.proofs.count_empty.Statement.{statement}
 use Rattle.collector.proofs.count_empty.Tie as tie
 

@@ -1,7 +1,7 @@
 -- `collector::has_piece` gives `sameBytes` of the slot's piece and the body's, by what `wire::same_bytes` ensures.
 -- Trusts: nothing.
 use borrow.Author.Needs.{needs}
-use mathlib.Core.Path.{_≡_, ap, _∙_}
+use mathlib.Core.Path.{ap, _∙_}
 use mathlib.Core.List.{List}
 use Prim.Native.Nat.{ℕ, _*_, _-_}
 use denote.Ref.{now}

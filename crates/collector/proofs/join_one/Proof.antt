@@ -1,7 +1,7 @@
 -- `collector::join_one` gives `pasted` of the slot's piece, by what `wire::copy_at` ensures.
 -- Trusts: nothing.
 use borrow.Author.Needs.{needs}
-use mathlib.Core.Path.{_≡_, ap, _∙_}
+use mathlib.Core.Path.{ap, _∙_}
 use mathlib.Core.List.{List}
 use Prim.Native.Nat.{ℕ, _*_}
 use denote.Ref.{now}

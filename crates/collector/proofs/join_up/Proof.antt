@@ -1,12 +1,11 @@
 -- `collector::join_up` gives `joined` at the start of the join buffer. The loop's invariant: the pieces of the first `k` slots stand there, `at` is
 -- their length, and the rest is as it was; what falls is n - k.
 -- Trusts: nothing.
-use mathlib.Core.Path.{_≡_, refl, sym, ap, _∙_}
-use mathlib.Core.List.{List, _++_}
+use mathlib.Core.Path.{_≡_, refl, _∙_}
+use mathlib.Core.List.{_++_}
 use Prim.Native.Nat.{ℕ, _+_, _-_, _*_, _≤_}
 use native.Mathlib.Omega.{arith}
 use native.Mathlib.Numerals.{add-one}
-use borrow.Author.Needs.{needs}
 use denote.Ref.{now}
 use lib.ListN.{length, drop, getD}
 use Rattle.collector.specs.Pieces.{joined}

@@ -5,13 +5,14 @@ use borrow.Author.Tests.{eq-eqb, ne-eqb, not-true, not-false}
 use mathlib.Core.Path.{_≡_, sym, _∙_}
 use mathlib.Core.Bool.{true}
 use native.Mathlib.Omega.{arith}
-use Prim.Native.Nat.{ℕ, _-_, _≤_}
+use Prim.Native.Nat.{_-_}
 use denote.Ref.{now}
 use lib.ListN.{getD}
-use Rattle.wire.specs.Bytes.{sameBytes}
 use Rattle.collector.specs.Pieces.{pieceAt}
-use Rattle.collector.specs.Step.{relationOf, isOf, slotOf, countOf, numberOf, pieceOf}
-use Rattle.collector.proofs.LawsStep.{isOf-short}
+use Rattle.collection.specs.Record.{isOf}
+use Rattle.collection.specs.Refusals.{slotOf, countOf, numberOf}
+use Rattle.collector.specs.Step.{relationOf}
+use Rattle.collection.proofs.Laws.{isOf-short}
 use Rattle.collector.proofs.relate.Statement.{statement}
 use Rattle.collector.proofs.relate.Tie as tie
 

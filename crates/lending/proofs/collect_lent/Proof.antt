@@ -44,12 +44,12 @@ use denote.Signature.{Slot, plain, namedLft, shrSliceOf, mutSliceOf}
 use denote.Struct.Laws as LL
 use Rattle.collector.specs.Answers.{said, ownOf, joinedOf}
 use Rattle.collector.specs.Step.{After, collectStep}
-use Rattle.collector.specs.declared.Collection.{Collection}
+use Rattle.collection.specs.declared.Collection.{Collection}
 use Rattle.collector.specs.declared.Outcome.{Outcome}
 use Rattle.lending.specs.declared.Lent.{Lent}
 use Rattle.lending.proofs.Laws.{step-lent}
-use Rattle.collector.proofs.Collection as R
-use Rattle.collector.proofs.Collection.Laws as R′
+use Rattle.collection.proofs.Collection as R
+use Rattle.collection.proofs.Collection.Laws as R′
 use Rattle.collector.proofs.Outcome as O
 use Rattle.collector.proofs.Outcome.Laws as O′
 use Rattle.lending.proofs.Lent as T

@@ -13,9 +13,9 @@ use Rattle.dsg.proofs.Walk.{calls-at, ensured, lasts, entered, cited, s
 use Rattle.dsg.proofs.Walk.{goes-gave-slice, goes-ref, Walks, ends-at, walked, walk-meets, yes}
 use denote.Struct.Laws as LL
 use Rattle.dsg_pieces.specs.Bodies.{collectAfter}
-use Rattle.collector.specs.declared.Collection.{Collection}
-use Rattle.collector.proofs.Collection as D0
-use Rattle.collector.proofs.Collection.Laws as D0′
+use Rattle.collection.specs.declared.Collection.{Collection}
+use Rattle.collection.proofs.Collection as D0
+use Rattle.collection.proofs.Collection.Laws as D0′
 use Rattle.dsg_pieces.proofs.Collected as D1
 use Rattle.dsg_pieces.proofs.Collected.Laws as D1′
 use Rattle.dsg_pieces.specs.declared.CollectStepped.{CollectStepped}

@@ -1,10 +1,10 @@
--- `collector::refuse` gives `refusalOf`: test 1 on each buffer, then the body's own.
+-- `collection::refuse` gives `refusalOf`: test 1 on each buffer, then the body's own.
 -- Trusts: nothing.
 use borrow.Author.Needs.{needs}
 use borrow.Author.Tests.{le-ltb, lt-ltb}
-use Rattle.collector.specs.Step.{refusalOf}
-use Rattle.collector.proofs.refuse.Statement.{statement}
-use Rattle.collector.proofs.refuse.Tie as tie
+use Rattle.collection.specs.Refusals.{refusalOf}
+use Rattle.collection.proofs.refuse.Statement.{statement}
+use Rattle.collection.proofs.refuse.Tie as tie
 
 -- a short slot buffer
 returns : tie.Need-returns

@@ -1,16 +1,16 @@
--- `collector::all_sound` gives `soundTo`. The loop's invariant: `sound` says whether the first `k` slots are; what falls is 16 - k.
+-- `collection::all_sound` gives `soundTo`. The loop's invariant: `sound` says whether the first `k` slots are; what falls is 16 - k.
 -- Trusts: nothing.
-use mathlib.Core.Path.{_≡_, refl, sym, ap, _∙_}
-use mathlib.Core.Bool.{_&&_, and-false, and-true}
+use mathlib.Core.Path.{_≡_, refl, sym, _∙_}
+use mathlib.Core.Bool.{and-false, and-true}
 use mathlib.Core.Logic.{⊎-elim}
-use Prim.Native.Nat.{ℕ, _+_, _-_, _≤_, suc}
+use Prim.Native.Nat.{_-_, _≤_}
 use native.Mathlib.Omega.{arith}
 use native.Mathlib.Numerals.{add-one}
 use borrow.Author.Needs.{needs}
 use borrow.Author.Tests.{not-true, not-false}
-use Rattle.collector.specs.Pieces.{soundTo}
-use Rattle.collector.proofs.all_sound.Statement.{statement}
-use Rattle.collector.proofs.all_sound.Tie as tie
+use Rattle.collection.specs.Record.{soundTo}
+use Rattle.collection.proofs.all_sound.Statement.{statement}
+use Rattle.collection.proofs.all_sound.Tie as tie
 
 abbrev Inv-loop : tie.InvT-loop
 Inv-loop n filled lengths sound₀ k₀ sound k = (k ≤ 16) × (sound ≡ soundTo filled lengths n k)

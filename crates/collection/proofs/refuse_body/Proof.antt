@@ -1,10 +1,10 @@
--- `collector::refuse_body` gives `bodyRefusal`: at each `return` the tests that led there say which case holds.
+-- `collection::refuse_body` gives `bodyRefusal`: at each `return` the tests that led there say which case holds.
 -- Trusts: nothing.
 use borrow.Author.Needs.{needs}
 use borrow.Author.Tests.{le-ltb, lt-ltb, eq-eqb, ne-eqb}
-use Rattle.collector.specs.Step.{bodyRefusal}
-use Rattle.collector.proofs.refuse_body.Statement.{statement}
-use Rattle.collector.proofs.refuse_body.Tie as tie
+use Rattle.collection.specs.Refusals.{bodyRefusal}
+use Rattle.collection.proofs.refuse_body.Statement.{statement}
+use Rattle.collection.proofs.refuse_body.Tie as tie
 
 -- under 3 bytes: 2
 returns : tie.Need-returns

@@ -1,11 +1,11 @@
--- `collector::well_made` gives `wellMade`: one answer for each test.
+-- `collection::well_made` gives `wellMade`: one answer for each test.
 -- Trusts: nothing.
 use borrow.Author.Needs.{needs}
 use borrow.Author.Tests.{le-leb, lt-leb}
 use mathlib.Core.Path.{sym, _∙_}
-use Rattle.collector.specs.Step.{wellMade}
-use Rattle.collector.proofs.well_made.Statement.{statement}
-use Rattle.collector.proofs.well_made.Tie as tie
+use Rattle.collection.specs.Record.{wellMade}
+use Rattle.collection.proofs.well_made.Statement.{statement}
+use Rattle.collection.proofs.well_made.Tie as tie
 
 -- a number over 16
 returns : tie.Need-returns
@@ -15,7 +15,7 @@ returns c = simp (lt-leb _ _ (c .if1 .taken))
 -- sound slots: whether one is filled
 returns-2 : tie.Need-returns-2
 unfolding wellMade
-returns-2 c = simp (le-leb _ _ (c .before .before .before .if1 .left), sym (c .before .before .all-sound .ensures) ∙ c .before .if2 .taken, c .count-empty .ensures)
+returns-2 c = simp (le-leb _ _ (c .before .before .before .if1 .left), sym (c .before .before .all-sound .ensures) ∙ c .before .if2 .taken, c .any-filled .ensures)
 
 -- an unsound slot
 returns-3 : tie.Need-returns-3

@@ -1,0 +1,168 @@
+// The record of a collection, and the tests of a record and of a body (document 01, "Collecting pieces").
+//
+// Four public functions. `empty_collection` gives a record with nothing collected, `begin` one under a count and number. `is_of` says
+// whether a record holds the collection of a count and number: a record that no calls could have made holds nothing. `refuse` says by
+// which of tests 1 to 5 a body is refused. They take any record, any numbers and any body, and write nothing.
+ghost use mathlib.Core.Path.{_≡_};
+ghost use lib.Dec.{ltb};
+ghost use Rattle.collection.specs.Record.{emptySlots, mostFlag, mostLength, slotSound, soundTo, wellMade, isOf, emptyCollection};
+ghost use Rattle.collection.specs.Refusals.{bodyRefusal, refusalOf};
+
+// The least length of a lent buffer, the bytes of a slot, and the most bytes of a piece.
+pub const BUFFER_BYTES: usize = 24000;
+
+pub const SLOT_BYTES: usize = 1500;
+
+pub const PIECE_BYTES: u16 = 1497;
+
+// What is held: the count and number of a collection, and for each of sixteen slots whether it is
+// filled (1; 0 is empty) and its length. Number 0 means nothing collected.
+#[repr(C)]
+pub struct Collection {
+    pub count: u8,
+    pub number: u8,
+    pub filled: [u8; 16],
+    pub lengths: [u16; 16],
+}
+
+// Nothing collected yet under this count and number.
+pub fn begin(count: u8, number: u8) -> Collection
+    ensures { λ r. ⌜ r ≡ emptyCollection count number ⌝ }
+{
+    Collection {
+        count,
+        number,
+        filled: [0u8; 16],
+        lengths: [0u16; 16],
+    }
+}
+
+// A record with nothing collected.
+pub fn empty_collection() -> Collection
+    ensures { λ r. ⌜ r ≡ emptyCollection 0 0 ⌝ }
+{
+    begin(0, 0)
+}
+
+// The greatest flag that slot `k` of `n` may have.
+fn most_flag(k: usize, n: usize) -> u8
+    ensures { λ r. ⌜ r ≡ mostFlag k n ⌝ }
+{
+    if k < n { 1 } else { 0 }
+}
+
+// The greatest length that a slot with this flag may have.
+fn most_length(flag: u8) -> u16
+    ensures { λ r. ⌜ r ≡ mostLength flag ⌝ }
+{
+    if flag == 1 { PIECE_BYTES } else { 0 }
+}
+
+// Whether slot `k` of `n` is as calls leave it.
+fn slot_sound(flag: u8, len: u16, k: usize, n: usize) -> bool
+    ensures { λ r. ⌜ r ≡ slotSound flag len k n ⌝ }
+{
+    if most_flag(k, n) < flag {
+        return false;
+    }
+    len <= most_length(flag)
+}
+
+// Whether all sixteen slots are.
+fn all_sound(filled: [u8; 16], lengths: [u16; 16], n: usize) -> bool
+    ensures { λ r. ⌜ r ≡ soundTo filled lengths n 16 ⌝ }
+{
+    let mut sound = true;
+    let mut k = 0;
+    while k < 16 {
+        if !slot_sound(filled[k], lengths[k], k, n) {
+            sound = false;
+        }
+        k += 1;
+    }
+    sound
+}
+
+// Whether a slot is filled.
+fn any_filled(filled: [u8; 16]) -> bool
+    ensures { λ r. ⌜ r ≡ ltb (emptySlots filled 16) 16 ⌝ }
+{
+    let mut some = false;
+    let mut k = 0;
+    while k < 16 {
+        if filled[k] != 0 {
+            some = true;
+        }
+        k += 1;
+    }
+    some
+}
+
+// Whether something is collected, and calls could have made the record.
+fn well_made(held: Collection) -> bool
+    ensures { λ r. ⌜ r ≡ wellMade held ⌝ }
+{
+    let n = held.number as usize;
+    let filled = held.filled;
+    let lengths = held.lengths;
+    if 16 < n {
+        return false;
+    }
+    if all_sound(filled, lengths, n) {
+        return any_filled(filled);
+    }
+    false
+}
+
+// Whether the held collection is the one of this count and number.
+pub fn is_of(held: Collection, count: u8, number: u8) -> bool
+    ensures { λ r. ⌜ r ≡ isOf held count number ⌝ }
+{
+    if !well_made(held) {
+        return false;
+    }
+    if held.count != count {
+        return false;
+    }
+    held.number == number
+}
+
+// The first of tests 2 to 5 that the body fails, or 0.
+fn refuse_body(body: &[u8]) -> u8
+    ensures { λ r. ⌜ r ≡ bodyRefusal (now (body .entry)) ⌝ }
+{
+    if body.len() < 3 {
+        return 2;
+    }
+    if SLOT_BYTES < body.len() {
+        return 3;
+    }
+    let n = body[1];
+    if n == 0 {
+        return 4;
+    }
+    if 16 < n {
+        return 4;
+    }
+    let s = body[2];
+    if s == 0 {
+        return 5;
+    }
+    if n < s {
+        return 5;
+    }
+    0
+}
+
+// The refusal of a body and two buffers of these lengths, 1 to 5, or 0.
+pub fn refuse(slots: usize, join: usize, body: &[u8]) -> u8
+    ensures { λ r. ⌜ r ≡ refusalOf slots join (now (body .entry)) ⌝ }
+{
+    if slots < BUFFER_BYTES {
+        return 1;
+    }
+    if join < BUFFER_BYTES {
+        return 1;
+    }
+    refuse_body(body)
+}
