@@ -17,11 +17,12 @@ use Rattle.elements.specs.Types.{knownTypes}
 use Rattle.elements.specs.Places.{childOf, under, placed, typeOf, parentIn, table, lineAt, placeIn, knownAt, typeUnder}
 use Rattle.elements.specs.declared.Head.{Head}
 use Rattle.elements.specs.declared.Head.the-variants.{End, Refused, Value}
-use Rattle.rows.specs.Tests.{stepped, isRow, rowEnd, noneCounted}
+use Rattle.element_tests.specs.Tests.{stepped}
+use Rattle.rows.specs.Tests.{isRow, rowEnd, noneCounted}
 use Rattle.rows.specs.Rows as rows
 use Rattle.rows.specs.Rows.{elementWith, noted, goOn, onHead, rowStep, rowOf, elementOf, testedAt}
 use Rattle.rows.specs.declared.Tally.{Tally}
-use Rattle.rows.specs.declared.Step.{Step}
+use Rattle.element_tests.specs.declared.Step.{Step}
 use Rattle.rows.specs.declared.Fault.{Fault}
 use Rattle.contents.specs.Rows.{rowWith, rowFrom, rowIn, rowInside, typeAt, placesOf}
 use Rattle.demands.proofs.LawsCount.{Counted, element-passed, Repeats, turn-room}

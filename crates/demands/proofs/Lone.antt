@@ -27,7 +27,8 @@ use Rattle.table.specs.declared.Table.{Table}
 use Rattle.contents.specs.Rows.{done, item, rowFrom, rowIn, rowInside, placesOf}
 use Rattle.contents.specs.Rules.{withClient, clientAt, withClientChild, clientsIn, withNamed, withRuleChild, ruleAt}
 use Rattle.contents.specs.Classifiers.{classifierAt}
-use Rattle.rows.specs.Tests.{secondCopy, wrongLength, noChannel, badValue, isFull, ownTests, isRow, rowEnd, noneCounted, emptyTally}
+use Rattle.element_tests.specs.Tests.{secondCopy, wrongLength, noChannel, badValue, isFull, ownTests}
+use Rattle.rows.specs.Tests.{isRow, rowEnd, noneCounted, emptyTally}
 use Rattle.rows.specs.Rows as rows
 use Rattle.rows.specs.Rows.{elementWith, rowStep, rowOf, elementOf, testedAt}
 use Rattle.reader.specs.Take.{withRule, withElement, tableOf, isListed, classifierNumbers, isTaken, unanswered, namedPlace}

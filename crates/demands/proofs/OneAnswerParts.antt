@@ -20,6 +20,7 @@ use Rattle.table.proofs.empty_table.Reads as empty_table
 use Rattle.elements.proofs.read_head.Reads as read_head
 use Rattle.elements.proofs.types.find_type.Reads as find_type
 use Rattle.elements.proofs.types.lacks_must.Reads as lacks_must
+use Rattle.element_tests.proofs.own_tests.Reads as own_tests
 use Rattle.rows.proofs.empty_tally.Reads as empty_tally
 use Rattle.rows.proofs.test_element.Reads as test_element
 use Rattle.contents.proofs.rule_at.Reads as rule_at
@@ -82,6 +83,11 @@ find_type-one κs = only (parts.find_type-gives κs)
 
 pub lacks_must-one : (κs : Lfts 1) → One answer (lacks_must.Post κs)
 lacks_must-one κs = only (parts.lacks_must-gives κs)
+
+-- ---- element_tests
+
+pub own_tests-one : (κs : Lfts 1) → One answer (own_tests.Post κs)
+own_tests-one κs = only (parts.own_tests-gives κs)
 
 -- ---- rows
 

@@ -1,4 +1,4 @@
--- Parts: what the public functions of the lower crates give (wire, table, elements, rows, contents, collection, matching, listing, bodies): each its definition, for every input.
+-- Parts: what the public functions of the lower crates give (wire, table, elements, element_tests, rows, contents, collection, matching, listing, bodies): each its definition, for every input.
 --
 -- It says nothing of what the definitions mean; docs/MAP.md says where they stand. `met` of each function, in its own crate, says that the
 -- compiled function meets the contract cited here.
@@ -26,6 +26,8 @@ use Rattle.elements.proofs.read_head.Reads as read_head
 use Rattle.elements.specs.Places.{typeUnder, lacksMust}
 use Rattle.elements.proofs.types.find_type.Reads as find_type
 use Rattle.elements.proofs.types.lacks_must.Reads as lacks_must
+use Rattle.element_tests.specs.Tests.{ownTests}
+use Rattle.element_tests.proofs.own_tests.Reads as own_tests
 use Rattle.rows.specs.Tests.{emptyTally}
 use Rattle.rows.specs.Rows.{testedAt}
 use Rattle.rows.proofs.empty_tally.Reads as empty_tally
@@ -100,6 +102,11 @@ find_type-gives κs a x s h = h
 
 pub lacks_must-gives : (κs : Lfts 1) → Gives answer (lacks_must.Post κs) (λ a. lacksMust (a .0) (now (a .1 .0)))
 lacks_must-gives κs a x s h = h
+
+-- ---- element_tests
+
+pub own_tests-gives : (κs : Lfts 1) → Gives answer (own_tests.Post κs) (λ a. ownTests (now (a .0)) (a .1 .0) (a .1 .1 .0) (a .1 .1 .1 .0) (a .1 .1 .1 .1 .0))
+own_tests-gives κs a x s h = h
 
 -- ---- rows
 

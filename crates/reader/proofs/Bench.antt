@@ -17,7 +17,8 @@ use Rattle.table.specs.declared.Table.{Table}
 use Rattle.elements.specs.Elements.{headAt}
 use Rattle.elements.specs.Types.{knownTypes}
 use Rattle.elements.specs.Places.{childOf, under, placed, typeOf, parentIn, table, lineAt, placeIn, knownAt, typeUnder, missingIn, lacksMust}
-use Rattle.rows.specs.Tests.{secondCopy, wrongLength, noChannel, badValue, isFull, ownTests, isRow, rowEnd, emptyTally}
+use Rattle.element_tests.specs.Tests.{secondCopy, wrongLength, noChannel, badValue, isFull, ownTests}
+use Rattle.rows.specs.Tests.{isRow, rowEnd, emptyTally}
 use Rattle.rows.specs.Rows.{elementWith, rowStep, rowFrom as testedFrom, rowOf, elementOf, testedAt}
 use Rattle.contents.specs.Rows.{Row, done, bad, item, rowFrom, rowIn, rowInside, typeAt}
 use Rattle.contents.specs.Rules.{withClient, clientAt, withClientChild, clientsIn, withUcids, withNamed, withRuleChild, ruleAt}

@@ -8,12 +8,12 @@
 --   testedAt-passed    not refused, a listed type: it passed tests 9 to 12, and its list has one more
 --   testedAt-room      the same of a type that repeats: there was room
 -- Trusts: nothing.
-use mathlib.Core.Path.{_≡_, refl, sym, ap, _∙_}
+use mathlib.Core.Path.{_≡_, refl, ap, _∙_}
 use mathlib.Core.Bool.{Bool, true, false, cond, not}
 use mathlib.Core.List.{List}
 use Prim.Native.Nat.{ℕ, zero, suc, _+_, _-_, _≤_, _<_}
 use native.Mathlib.Omega.{arith}
-use borrow.Author.Tests.{eq-eqb, ne-eqb, eqb-true, eqb-false, not-true, not-false, leb-false}
+use borrow.Author.Tests.{eq-eqb, eqb-true, eqb-false, not-true, leb-false}
 use lib.ListN.{length, getD, set}
 use lib.Seq.{set-out}
 use lib.Dec.{eqb}
@@ -23,12 +23,12 @@ use Rattle.elements.proofs.Laws.{headAt-end, headAt-ends, headAt-starts, headAt
 use Rattle.elements.specs.declared.Head.{Head}
 use Rattle.elements.specs.declared.Head.the-variants.{End, Refused, Value}
 use Rattle.elements.specs.declared.types.Known.{Known}
-use Rattle.rows.specs.Tests.{stepped, secondCopy, wrongLength, badValue, isFull, ownTests, isRow, rowEnd, noneCounted}
+use Rattle.element_tests.specs.Tests.{stepped, secondCopy, wrongLength, badValue, isFull, ownTests}
+use Rattle.rows.specs.Tests.{isRow, rowEnd, noneCounted}
 use Rattle.rows.specs.Rows.{elementWith, noted, goOn, onHead, rowStep, rowFrom, rowOf, elementOf, tested, testedAt}
 use Rattle.rows.specs.declared.Tally.{Tally}
-use Rattle.rows.specs.declared.Step.{Step}
+use Rattle.element_tests.specs.declared.Step.{Step}
 use Rattle.rows.specs.declared.Fault.{Fault}
-use Rattle.rows.specs.declared.Tested.{Tested}
 
 -- ---- where a refusal lies
 

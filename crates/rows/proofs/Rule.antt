@@ -6,14 +6,13 @@ use mathlib.Core.Path.{_≡_, refl, sym, ap, _∙_, fun-ext}
 use mathlib.Core.List.{List}
 use Prim.Native.Nat.{ℕ, zero, suc, _+_, _-_, _≤_, _<_}
 use native.Mathlib.Omega.{arith}
-use lib.ListN.{length}
 use Rattle.elements.specs.Elements.{headAt}
 use Rattle.elements.proofs.Laws.{headAt-end, headAt-fits}
 use Rattle.elements.specs.declared.Head.{Head}
 use Rattle.elements.specs.declared.Head.the-variants.{End, Refused, Value}
 use Rattle.rows.specs.Tests.{rowEnd, noneCounted}
 use Rattle.rows.specs.Rows.{elementWith, noted, goOn, onHead, rowStep, rowFrom, rowOf}
-use Rattle.rows.specs.declared.Step.{Step}
+use Rattle.element_tests.specs.declared.Step.{Step}
 use Rattle.rows.specs.declared.Fault.{Fault}
 
 -- what a step does with the value that a head announces

@@ -7,14 +7,13 @@
 // each child; the bytes left fall at each call. The row reader is a loop, so the calls are only as deep as
 // rows stand in rows: by the table at most `row_from` for 23 and again for 23.9, or for 50 and 50.4, whatever
 // the length of the message.
+use element_tests::Step;
 use elements::Head;
-use elements::types::Known;
 use elements::types::Length;
-use elements::types::Values;
 ghost use mathlib.Core.Path.{_≡_};
 ghost use Prim.Native.Nat.{_+_, _≤_, _<_};
 ghost use lib.ListN.{length};
-ghost use Rattle.rows.specs.Tests.{secondCopy, wrongLength, noChannel, badValue, isFull, ownTests, isRow, rowEnd, noneCounted, emptyTally};
+ghost use Rattle.rows.specs.Tests.{isRow, rowEnd, noneCounted, emptyTally};
 ghost use Rattle.rows.specs.Rows.{elementOf, rowOf, testedAt};
 
 // How many elements of each list stand before this one in its row. A type's list has a number in its row.
@@ -24,15 +23,6 @@ pub struct Tally {
 
 // The list of an element that is not counted: a row has eight lists at most.
 const NO_LIST: usize = 8;
-
-// What an element comes to: 0, or a refusal number and its offset; and the list that it is counted in, with the
-// count after it.
-pub struct Step {
-    pub bad: u8,
-    pub off: usize,
-    pub list: usize,
-    pub count: u8,
-}
 
 // What a row comes to: 0, or a refusal number and its offset.
 pub struct Fault {
@@ -46,109 +36,6 @@ pub struct Tested {
     pub off: usize,
     pub next: usize,
     pub tally: Tally,
-}
-
-// Test 9.
-fn second_copy(repeats: bool, count: u8) -> bool
-    ensures { λ r. ⌜ r ≡ secondCopy repeats count ⌝ }
-{
-    !repeats && count != 0
-}
-
-// Test 10.
-fn wrong_length(allowed: Length, len: usize) -> bool
-    ensures { λ r. ⌜ r ≡ wrongLength allowed len ⌝ }
-{
-    match allowed {
-        Length::Row => false,
-        Length::Bytes(n) => len != n,
-        Length::NoneOr(n) => len != 0 && len != n,
-        Length::OrMore(n) => len < n,
-    }
-}
-
-// Whether a number is no channel's frequency.
-fn no_channel(hertz: u32) -> bool
-    ensures { λ r. ⌜ r ≡ noChannel hertz ⌝ }
-{
-    if hertz < 62500 {
-        return true;
-    }
-    if 1000000000 < hertz {
-        return true;
-    }
-    hertz % 62500 != 0
-}
-
-// Test 11.
-fn bad_value(message: &[u8], allowed: Values, at: usize, len: usize) -> bool
-    requires { ⌜ at + 2 + len ≤ length (now message) ⌝ }
-    ensures { λ r. ⌜ r ≡ badValue (now (message .entry)) allowed at len ⌝ }
-{
-    match allowed {
-        Values::Any => false,
-        Values::NotZero => len == 2 && wire::number2(message, at + 2) == 0,
-        Values::Channel => no_channel(wire::number4(message, at + 2)),
-    }
-}
-
-// Test 12.
-fn is_full(repeats: bool, room: u8, count: u8, len: usize) -> bool
-    ensures { λ r. ⌜ r ≡ isFull repeats room count len ⌝ }
-{
-    if repeats {
-        room <= count
-    } else {
-        (room as usize) < len
-    }
-}
-
-// Tests 9 to 12 of an element of a known type, of whose list `count` elements stand before it, and its count.
-fn own_tests(message: &[u8], known: Known, at: usize, len: usize, count: u8) -> Step
-    requires { ⌜ at + 2 + len ≤ length (now message) ⌝ }
-    ensures { λ r. ⌜ r ≡ ownTests (now (message .entry)) known at len count ⌝ }
-{
-    let list = known.list;
-    if second_copy(known.repeats, count) {
-        return Step {
-            bad: 9,
-            off: at,
-            list,
-            count,
-        };
-    }
-    let lengths = known.length;
-    if wrong_length(lengths, len) {
-        return Step {
-            bad: 10,
-            off: at,
-            list,
-            count,
-        };
-    }
-    let values = known.values;
-    if bad_value(message, values, at, len) {
-        return Step {
-            bad: 11,
-            off: at,
-            list,
-            count,
-        };
-    }
-    if is_full(known.repeats, known.room, count, len) {
-        return Step {
-            bad: 12,
-            off: at,
-            list,
-            count,
-        };
-    }
-    Step {
-        bad: 0,
-        off: at,
-        list,
-        count: count + 1,
-    }
 }
 
 // Whether the value is a row of elements.
@@ -198,7 +85,7 @@ fn element(message: &[u8], parent: usize, at: usize, len: usize, counts: &[u8; 8
     }
     let list = known.list;
     let count = counts[list];
-    let own = own_tests(message, known, at, len, count);
+    let own = element_tests::own_tests(message, known, at, len, count);
     if own.bad != 0 {
         return own;
     }

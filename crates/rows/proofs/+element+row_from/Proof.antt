@@ -25,7 +25,7 @@ use Rattle.rows.proofs.+element+row_from.Lts-row_from as row-from-lts
 use Rattle.elements.proofs.read_head.Reads as read-head-reads
 use Rattle.elements.proofs.types.find_type.Reads as find-type-reads
 use Rattle.rows.proofs.is_row.Reads as is-row-reads
-use Rattle.rows.proofs.own_tests.Reads as own-tests-reads
+use Rattle.element_tests.proofs.own_tests.Reads as own-tests-reads
 use Rattle.rows.proofs.row_end.Reads as row-end-reads
 use Rattle.rows.proofs.+element+row_from.{statement}
 use Rattle.rows.proofs.+element+row_from.Tie.{close}

@@ -1,12 +1,12 @@
--- `rows::own_tests` gives `ownTests`: the tests stand in the order of their numbers, and a return follows from those before it.
+-- `element_tests::own_tests` gives `ownTests`: the tests stand in the order of their numbers, and a return follows from those before it.
 -- Trusts: nothing.
 use borrow.Author.Needs.{needs}
-use mathlib.Core.Path.{_≡_, refl, sym, _∙_}
+use mathlib.Core.Path.{sym, _∙_}
 use native.Mathlib.Omega.{arith}
-use Rattle.rows.proofs.Counts.{count-fits}
-use Rattle.rows.specs.Tests.{ownTests}
-use Rattle.rows.proofs.own_tests.Statement.{statement}
-use Rattle.rows.proofs.own_tests.Tie as tie
+use Rattle.element_tests.proofs.Counts.{count-fits}
+use Rattle.element_tests.specs.Tests.{ownTests}
+use Rattle.element_tests.proofs.own_tests.Statement.{statement}
+use Rattle.element_tests.proofs.own_tests.Tie as tie
 
 returns : tie.Need-returns
 unfolding ownTests

@@ -1,10 +1,10 @@
--- `rows::wrong_length` gives `wrongLength`, variant by variant.
+-- `element_tests::wrong_length` gives `wrongLength`, variant by variant.
 -- Trusts: nothing.
 use borrow.Author.Needs.{needs}
-use borrow.Author.Tests.{eq-eqb, ne-eqb, lt-ltb, le-ltb}
-use Rattle.rows.specs.Tests.{wrongLength}
-use Rattle.rows.proofs.wrong_length.Statement.{statement}
-use Rattle.rows.proofs.wrong_length.Tie as tie
+use borrow.Author.Tests.{eq-eqb, ne-eqb}
+use Rattle.element_tests.specs.Tests.{wrongLength}
+use Rattle.element_tests.proofs.wrong_length.Statement.{statement}
+use Rattle.element_tests.proofs.wrong_length.Tie as tie
 
 returns : tie.Need-returns
 unfolding wrongLength

@@ -2,13 +2,13 @@
 --
 --   count-fits    one more still fits a byte
 -- Trusts: nothing.
-use mathlib.Core.Path.{_≡_, refl, sym, _∙_}
-use mathlib.Core.Bool.{Bool, true, false, not}
+use mathlib.Core.Path.{_≡_}
+use mathlib.Core.Bool.{Bool, true, false}
 use Prim.Native.Nat.{ℕ, _+_, _<_}
 use native.Mathlib.Omega.{arith}
 use borrow.Author.Tests.{leb-false, eqb-true, not-false}
-use lib.Dec.{eqb, leb}
-use Rattle.rows.specs.Tests.{secondCopy, isFull}
+use lib.Dec.{eqb}
+use Rattle.element_tests.specs.Tests.{secondCopy, isFull}
 
 pub count-fits : (repeats : Bool) (room count len : ℕ) → secondCopy repeats count ≡ false → isFull repeats room count len ≡ false → room < 256 → count + 1 < 256
 unfolding secondCopy isFull

@@ -1,10 +1,9 @@
--- `rows::no_channel` gives `noChannel`, a return for each of its three tests.
+-- `element_tests::no_channel` gives `noChannel`, a return for each of its three tests.
 -- Trusts: nothing.
-use borrow.Author.Needs.{needs}
-use borrow.Author.Tests.{eq-eqb, ne-eqb, lt-ltb, le-ltb}
-use Rattle.rows.specs.Tests.{noChannel}
-use Rattle.rows.proofs.no_channel.Statement.{statement}
-use Rattle.rows.proofs.no_channel.Tie as tie
+use borrow.Author.Tests.{lt-ltb, le-ltb}
+use Rattle.element_tests.specs.Tests.{noChannel}
+use Rattle.element_tests.proofs.no_channel.Statement.{statement}
+use Rattle.element_tests.proofs.no_channel.Tie as tie
 
 returns : tie.Need-returns
 unfolding noChannel

@@ -1,10 +1,11 @@
--- `rows::bad_value` gives `badValue`, variant by variant.
+-- `element_tests::bad_value` gives `badValue`, variant by variant.
 -- Trusts: nothing.
 use borrow.Author.Needs.{needs}
-use borrow.Author.Tests.{eq-eqb, ne-eqb, lt-ltb, le-ltb}
-use Rattle.rows.specs.Tests.{badValue}
-use Rattle.rows.proofs.bad_value.Statement.{statement}
-use Rattle.rows.proofs.bad_value.Tie as tie
+use borrow.Author.Tests.{eq-eqb, ne-eqb}
+use mathlib.Core.Path.{sym, _∙_}
+use Rattle.element_tests.specs.Tests.{badValue}
+use Rattle.element_tests.proofs.bad_value.Statement.{statement}
+use Rattle.element_tests.proofs.bad_value.Tie as tie
 
 returns : tie.Need-returns
 unfolding badValue
@@ -12,7 +13,7 @@ returns c = simp (c .enum-told .given .1)
 
 returns-2 : tie.Need-returns-2
 unfolding badValue
-returns-2 c = simp (c .before .before .enum-told2 .given .1, eq-eqb _ _ (c .before .if1 .taken), ← c .number2 .ensures)
+returns-2 c = simp (c .before .before .before .enum-told2 .given .1, eq-eqb _ _ (c .before .before .if1 .taken), sym (c .number2 .ensures ∙ c .before .value-place .ensures 2))
 
 returns-3 : tie.Need-returns-3
 unfolding badValue
@@ -20,7 +21,7 @@ returns-3 c = simp (c .before .enum-told2 .given .1, ne-eqb _ _ (c .if1 .left))
 
 returns-4 : tie.Need-returns-4
 unfolding badValue
-returns-4 c = simp (c .before .before .enum-told3 .given .1, ← c .before .number4 .ensures, ← c .no-channel .ensures)
+returns-4 c = simp (c .before .before .before .enum-told3 .given .1, sym (c .before .number4 .ensures ∙ c .before .before .value-place2 .ensures 4), ← c .no-channel .ensures)
 
 pub bad-value-spec : {M : Type 1} → statement M
 bad-value-spec =

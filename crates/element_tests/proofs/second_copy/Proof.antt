@@ -1,9 +1,8 @@
--- `rows::second_copy` gives `secondCopy`, on each side of its first test.
+-- `element_tests::second_copy` gives `secondCopy`, on each side of its first test.
 -- Trusts: nothing.
-use borrow.Author.Needs.{needs}
-use Rattle.rows.specs.Tests.{secondCopy}
-use Rattle.rows.proofs.second_copy.Statement.{statement}
-use Rattle.rows.proofs.second_copy.Tie as tie
+use Rattle.element_tests.specs.Tests.{secondCopy}
+use Rattle.element_tests.proofs.second_copy.Statement.{statement}
+use Rattle.element_tests.proofs.second_copy.Tie as tie
 
 returns : tie.Need-returns
 unfolding secondCopy
