@@ -22,8 +22,8 @@ use Rattle.rows.specs.declared.Tally.{Tally}
 use Rattle.rows.specs.Tests.{secondCopy, wrongLength, noChannel, badValue, isFull, ownTests, isRow, rowEnd, emptyTally}
 use Rattle.rows.specs.Rows as rows
 use Rattle.rows.specs.Rows.{elementWith, rowStep, rowOf, elementOf, testedAt}
-use Rattle.contents.specs.Rows.{done, item, rowFrom, rowIn, rowInside}
-use Rattle.contents.specs.Rules.{withClientChild, clientsIn, withRuleChild, ruleAt}
+use Rattle.children.specs.Rows.{done, item, rowFrom, rowIn, rowInside}
+use Rattle.rules.specs.Rules.{withClientChild, clientsIn, withRuleChild, ruleAt}
 use Rattle.choice.specs.declared.Ucid.{Ucid}
 use Rattle.choice.specs.Best.{anyOf}
 use Rattle.choice.specs.Choose.{listsClient, fitsClient}

@@ -1,0 +1,2 @@
+-- Laws: what proofs above may know of rows and folds.
+pub mod Laws
