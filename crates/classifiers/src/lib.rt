@@ -95,5 +95,6 @@ pub fn classifier_at(message: &[u8], at: usize) -> Classifier
     let Head::Value(len) = elements::read_head(message, at, message.len()) else {
         return table::empty_classifier();
     };
-    classifier_in(message, at + 2, at + 2 + len)
+    let value = at + 2;
+    classifier_in(message, value, value + len)
 }

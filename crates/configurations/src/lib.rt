@@ -94,5 +94,6 @@ pub fn configuration_at(message: &[u8], at: usize) -> Configuration
     let Head::Value(len) = elements::read_head(message, at, message.len()) else {
         return empty_configuration();
     };
-    configuration_in(message, at + 2, at + 2 + len)
+    let value = at + 2;
+    configuration_in(message, value, value + len)
 }

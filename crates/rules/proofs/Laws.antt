@@ -79,13 +79,13 @@ module _ (msg : List ℕ) (at len : ℕ) (so : Clients) {listed : Bool} (e : lis
   no-client-child f = sym (child-by ∙ simp f)
 
   module _ (t : listed ≡ true) where
-    pub with-client-child : so .count < 8 → {one : Client} → one ≡ clientAt msg at len → record { count = so .count + 1; list = set (so .list) (so .count) one } ≡ withClientChild msg at len so
+    pub with-client-child : ltb (so .count) 8 ≡ true → {one : Client} → one ≡ clientAt msg at len → record { count = so .count + 1; list = set (so .list) (so .count) one } ≡ withClientChild msg at len so
     unfolding withClient
-    with-client-child h a = sym (child-by ∙ simp (t, lt-ltb (so .count) 8 h, a))
+    with-client-child h a = sym (child-by ∙ simp (t, h, a))
 
-    pub full-client-child : 8 ≤ so .count → so ≡ withClientChild msg at len so
+    pub full-client-child : ltb (so .count) 8 ≡ false → so ≡ withClientChild msg at len so
     unfolding withClient
-    full-client-child h = sym (child-by ∙ simp (t, le-ltb (so .count) 8 h))
+    full-client-child h = sym (child-by ∙ simp (t, h))
 
 -- a child keeps the room for numbers
 withRuleChild-room : (msg : List ℕ) (at len : ℕ) (q : Rule) → length (q .numbers) ≡ 8 → length (withRuleChild msg at len q .numbers) ≡ 8

@@ -34,16 +34,10 @@ fn client_at(message: &[u8], at: usize, len: usize) -> Client
             value: mac,
         };
     }
-    let number = wire::number2(message, at + 2);
-    if kind == 1 {
-        if len == 0 {
-            return Client { kind: 0, value: 0 };
-        }
-        return Client {
-            kind: 1,
-            value: number as u64,
-        };
+    if kind == 1 && len == 0 {
+        return Client { kind: 0, value: 0 };
     }
+    let number = wire::number2(message, at + 2);
     Client {
         kind,
         value: number as u64,
@@ -77,11 +71,8 @@ fn clients_in(message: &[u8], from: usize, end: usize) -> Clients
         };
         let here = at;
         at = here + 2 + len;
-        if !is_client(message[here]) {
-            continue;
-        }
         let used = clients.count;
-        if used < 8 {
+        if is_client(message[here]) && used < 8 {
             let one = client_at(message, here, len);
             clients.list[used as usize] = one;
             clients.count = used + 1;
@@ -166,5 +157,6 @@ pub fn rule_at(message: &[u8], at: usize) -> Rule
     let Head::Value(len) = elements::read_head(message, at, message.len()) else {
         return table::empty_rule();
     };
-    rule_in(message, at + 2, at + 2 + len)
+    let value = at + 2;
+    rule_in(message, value, value + len)
 }

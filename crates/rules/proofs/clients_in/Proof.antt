@@ -4,8 +4,9 @@
 use borrow.Author.Needs.{needs}
 use Prim.Native.Nat.{ℕ, _-_}
 use mathlib.Core.Path.{_≡_, refl, sym, ap, _∙_}
+use mathlib.Core.Logic.{⊎-elim}
 use native.Mathlib.Omega.{arith}
-use borrow.Author.Tests.{not-true, not-false}
+use borrow.Author.Tests.{ltb-true}
 use Rattle.children.specs.Rows.{rowFold, rowIn}
 use Rattle.rules.specs.Rules.{withClientChild, clientsIn}
 use Rattle.children.proofs.Laws.{no-value, item-fits, item-less, fold-stop, fold-item}
@@ -38,14 +39,12 @@ clients-in-spec =
     (λ c. let fits = item-fits _ _ _ (c .before .before .before .read-head .ensures) (c .before .len .given .1) in omega arith)
     (λ c. let fits = item-fits _ _ _ (c .before .before .before .before .read-head .ensures) (c .before .before .len .given .1) in omega arith)
     (λ c κs. search needs)
-    (λ c. item-less _ _ _ (c .before .before .before .before .before .before .read-head .ensures) (c .before .before .before .before .len .given .1))
-    (λ c. fold-item _ _ _ _ _ (c .before .before .before .before .before .before .read-head .ensures) (c .before .before .before .before .len .given .1) (no-client-child _ _ _ _ (c .before .is-client .ensures) (not-true _ (c .if1 .taken))) ∙ c .before .before .before .before .before .before .before .loop .inv)
     (λ c κs. let fits = item-fits _ _ _ (c .before .before .before .before .before .before .before .read-head .ensures) (c .before .before .before .before .before .len .given .1) in omega arith)
     (λ c. search needs)
     (λ c. search needs)
     (λ c. search needs)
-    (λ c. search needs)
+    (λ c. let room = ltb-true (c .before .before .before .before .before .before .before .before .before .loop .clients .count) 8 (c .before .if2 .taken) in search needs)
     (λ c. item-less _ _ _ (c .before .before .before .before .before .before .before .before .read-head .ensures) (c .before .before .before .before .before .before .len .given .1))
-    (λ c. fold-item _ _ _ _ _ (c .before .before .before .before .before .before .before .before .read-head .ensures) (c .before .before .before .before .before .before .len .given .1) (with-client-child _ _ _ _ (c .before .before .before .is-client .ensures) (not-false _ (c .before .before .if1 .left)) (c .before .if2 .taken) (c .client-at .ensures)) ∙ c .before .before .before .before .before .before .before .before .before .loop .inv)
-    (λ c. item-less _ _ _ (c .before .before .before .before .before .before .before .read-head .ensures) (c .before .before .before .before .before .len .given .1))
-    (λ c. fold-item _ _ _ _ _ (c .before .before .before .before .before .before .before .read-head .ensures) (c .before .before .before .before .before .len .given .1) (full-client-child _ _ _ _ (c .before .before .is-client .ensures) (not-false _ (c .before .if1 .left)) (c .if2 .left)) ∙ c .before .before .before .before .before .before .before .before .loop .inv))
+    (λ c. fold-item _ _ _ _ _ (c .before .before .before .before .before .before .before .before .read-head .ensures) (c .before .before .before .before .before .before .len .given .1) (with-client-child _ _ _ _ (c .before .before .before .is-client .ensures) (c .before .before .if1 .taken) (c .before .if2 .taken) (c .client-at .ensures)) ∙ c .before .before .before .before .before .before .before .before .before .loop .inv)
+    (λ c. item-less _ _ _ (c .before .before .before .before .before .before .read-head .ensures) (c .before .before .before .before .len .given .1))
+    (λ c. fold-item _ _ _ _ _ (c .before .before .before .before .before .before .read-head .ensures) (c .before .before .before .before .len .given .1) (⊎-elim (λ came. full-client-child _ _ _ _ (c .before .is-client .ensures) (came .0 .taken) (came .1 .left)) (λ came. no-client-child _ _ _ _ (c .before .is-client .ensures) (came .left)) (c .if1 .came)) ∙ c .before .before .before .before .before .before .before .loop .inv))
