@@ -20,7 +20,8 @@ use Rattle.table.specs.declared.Rule.{Rule}
 use Rattle.table.specs.declared.Table.{Table}
 use Rattle.table.proofs.Laws.{length-rulesOf-le, length-classifiersOf-le, length-numbersOf-le}
 use Rattle.children.specs.Rows.{rowIn, rowInside, typeAt, placesOf}
-use Rattle.rules.specs.Rules.{clientsIn, withNumber, withPriority, withUcids, withClients, withTunnel, withNamed, withRuleChild, ruleAt}
+use Rattle.clients.specs.Clients.{clientsIn}
+use Rattle.rules.specs.Rules.{withNumber, withPriority, withUcids, withClients, withTunnel, withNamed, withRuleChild, ruleAt}
 use Rattle.classifiers.specs.Classifiers.{classifierAt}
 use Rattle.configurations.specs.Configurations.{configurationAt}
 use Rattle.reader.specs.Take.{withRule, withClassifier, withConfiguration, withElement, tableOf}

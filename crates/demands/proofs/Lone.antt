@@ -25,7 +25,8 @@ use Rattle.table.specs.Table.{rulesOf, classifiersOf, numbersOf, emptyTable}
 use Rattle.table.specs.declared.Classifier.{Classifier}
 use Rattle.table.specs.declared.Table.{Table}
 use Rattle.children.specs.Rows.{done, item, rowFrom, rowIn, rowInside, placesOf}
-use Rattle.rules.specs.Rules.{withClient, clientAt, withClientChild, clientsIn, withNamed, withRuleChild, ruleAt}
+use Rattle.clients.specs.Clients.{withClient, clientAt, withClientChild, clientsIn}
+use Rattle.rules.specs.Rules.{withNamed, withRuleChild, ruleAt}
 use Rattle.classifiers.specs.Classifiers.{classifierAt}
 use Rattle.rows.specs.Tests.{secondCopy, wrongLength, noChannel, badValue, isFull, ownTests, isRow, rowEnd, noneCounted, emptyTally}
 use Rattle.rows.specs.Rows as rows

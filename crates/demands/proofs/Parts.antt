@@ -1,4 +1,4 @@
--- Parts: what the public functions of the lower crates give (wire, table, elements, rows, rules, classifiers, configurations, matching, listing, bodies): each its definition, for every input.
+-- Parts: what the public functions of the lower crates give (wire, table, elements, rows, clients, rules, classifiers, configurations, matching, listing, bodies): each its definition, for every input.
 --
 -- It says nothing of what the definitions mean; docs/MAP.md says where they stand. `met` of each function, in its own crate, says that the
 -- compiled function meets the contract cited here.
@@ -31,9 +31,11 @@ use Rattle.rows.specs.Tests.{emptyTally}
 use Rattle.rows.specs.Rows.{testedAt}
 use Rattle.rows.proofs.empty_tally.Reads as empty_tally
 use Rattle.rows.proofs.test_element.Reads as test_element
+use Rattle.clients.specs.Clients.{clientsIn}
 use Rattle.rules.specs.Rules.{ruleAt}
 use Rattle.classifiers.specs.Classifiers.{classifierAt}
 use Rattle.configurations.specs.Configurations.{configurationAt}
+use Rattle.clients.proofs.clients_in.Reads as clients_in
 use Rattle.rules.proofs.rule_at.Reads as rule_at
 use Rattle.classifiers.proofs.classifier_at.Reads as classifier_at
 use Rattle.configurations.proofs.configuration_at.Reads as configuration_at
@@ -108,7 +110,10 @@ empty_tally-gives κs a x s h = h
 pub test_element-gives : (κs : Lfts 1) → Gives answer (test_element.Post κs) (λ a. testedAt (now (a .0)) (a .1 .0) (a .1 .1 .0))
 test_element-gives κs a x s h = h
 
--- ---- rules, classifiers, configurations
+-- ---- clients, rules, classifiers, configurations
+
+pub clients_in-gives : (κs : Lfts 1) → Gives answer (clients_in.Post κs) (λ a. clientsIn (now (a .0)) (a .1 .0) (a .1 .1 .0))
+clients_in-gives κs a x s h = h
 
 pub rule_at-gives : (κs : Lfts 1) → Gives answer (rule_at.Post κs) (λ a. ruleAt (now (a .0)) (a .1 .0))
 rule_at-gives κs a x s h = h

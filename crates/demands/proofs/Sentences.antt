@@ -23,7 +23,8 @@ use Rattle.rows.specs.Tests.{secondCopy, wrongLength, noChannel, badValue, isFu
 use Rattle.rows.specs.Rows as rows
 use Rattle.rows.specs.Rows.{elementWith, rowStep, rowOf, elementOf, testedAt}
 use Rattle.children.specs.Rows.{done, item, rowFrom, rowIn, rowInside}
-use Rattle.rules.specs.Rules.{withClientChild, clientsIn, withRuleChild, ruleAt}
+use Rattle.clients.specs.Clients.{withClientChild, clientsIn}
+use Rattle.rules.specs.Rules.{withRuleChild, ruleAt}
 use Rattle.choice.specs.declared.Ucid.{Ucid}
 use Rattle.choice.specs.Best.{anyOf}
 use Rattle.choice.specs.Choose.{listsClient, fitsClient}

@@ -2,25 +2,24 @@
 --
 --   withRuleChild-number, -priority, -ucids, -clients, -tunnel, -named   what the child of each type sets
 --   withRuleChild-long    50.3 over 16 bytes        withRuleChild-full   a ninth 50.6        withRuleChild-other   any other type
---   no-client-child, with-client-child, full-client-child   a child of 50.4: no client ID, one more, one that has no place
 --   length-numbers        the list of numbers keeps its eight places
 -- Trusts: nothing.
 use Prim.Native.Nat.{ℕ, _+_, _≤_, _<_}
-use mathlib.Core.Path.{_≡_, refl, sym, ap, _∙_}
+use mathlib.Core.Path.{_≡_, refl}
 use mathlib.Core.List.{List}
 use native.Mathlib.Omega.{arith}
 use borrow.Author.Tests.{lt-ltb, le-ltb, le-leb, lt-leb, ne-eqb}
-use mathlib.Core.Bool.{Bool, true, false, cond, not, _&&_}
+use mathlib.Core.Bool.{Bool, true, false, cond}
 use lib.Dec.{eqb, leb, ltb}
 use Rattle.table.specs.Table.{emptyRule}
 use Rattle.children.proofs.Laws.{fold-keeps}
 use lib.ListN.{length, length-set, getD, set, take, drop, replicate}
 use Rattle.wire.specs.Bytes.{numberAt, pasted}
-use Rattle.table.specs.declared.Client.{Client}
 use Rattle.table.specs.declared.Rule.{Rule}
 use Rattle.children.specs.Rows.{typeAt, rowInside}
-use Rattle.rules.specs.Rules.{isClient, clientAt, withClient, withClientChild, clientsIn, withNumber, withPriority, withUcids, withClients, withTunnel, withNamed, withRuleChild, ruleAt}
-use Rattle.rules.specs.declared.Clients.{Clients}
+use Rattle.rules.specs.Rules.{withNumber, withPriority, withUcids, withClients, withTunnel, withNamed, withRuleChild, ruleAt}
+use Rattle.clients.specs.Clients.{clientsIn}
+use Rattle.clients.specs.declared.Clients.{Clients}
 
 module _ (msg : List ℕ) (at len : ℕ) (q : Rule) where
   pub withRuleChild-number : typeAt msg at ≡ 1 → {v : ℕ} → v ≡ getD msg (at + 2) 0 → withNumber v q ≡ withRuleChild msg at len q
@@ -63,29 +62,6 @@ module _ (msg : List ℕ) (at len : ℕ) (q : Rule) where
       → q ≡ withRuleChild msg at len q
   unfolding withRuleChild
   withRuleChild-other a b c d e f = simp (ne-eqb _ _ a, ne-eqb _ _ b, ne-eqb _ _ c, ne-eqb _ _ d, ne-eqb _ _ e, ne-eqb _ _ f)
-
--- a child of 50.4: no client ID, one more, and one that has no place
-module _ (msg : List ℕ) (at len : ℕ) (so : Clients) {listed : Bool} (e : listed ≡ isClient (typeAt msg at)) where
-  child-by : withClientChild msg at len so ≡ cond listed (withClient (clientAt msg at len) so) so
-  unfolding withClientChild isClient
-  child-by = rw e (on (ltb 4 (typeAt msg at)) (eqb (typeAt msg at) 0))
-    where
-      on : (a b : Bool) → cond a so (cond b so (withClient (clientAt msg at len) so)) ≡ cond (not a && not b) (withClient (clientAt msg at len) so) so
-      on true b = refl
-      on false true = refl
-      on false false = refl
-
-  pub no-client-child : listed ≡ false → so ≡ withClientChild msg at len so
-  no-client-child f = sym (child-by ∙ simp f)
-
-  module _ (t : listed ≡ true) where
-    pub with-client-child : ltb (so .count) 8 ≡ true → {one : Client} → one ≡ clientAt msg at len → record { count = so .count + 1; list = set (so .list) (so .count) one } ≡ withClientChild msg at len so
-    unfolding withClient
-    with-client-child h a = sym (child-by ∙ simp (t, h, a))
-
-    pub full-client-child : ltb (so .count) 8 ≡ false → so ≡ withClientChild msg at len so
-    unfolding withClient
-    full-client-child h = sym (child-by ∙ simp (t, h))
 
 -- a child keeps the room for numbers
 withRuleChild-room : (msg : List ℕ) (at len : ℕ) (q : Rule) → length (q .numbers) ≡ 8 → length (withRuleChild msg at len q .numbers) ≡ 8

@@ -1,2 +1,2 @@
--- Laws: what a child of a rule, and of its 50.4, sets.
+-- Laws: what a child of a rule sets; the room for numbers.
 pub mod Laws

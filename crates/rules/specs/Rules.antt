@@ -1,54 +1,24 @@
--- Rules: what the row of a rule leaves (document 01, "Elements", 50 and 50.4).
+-- Rules: what the row of a rule leaves (document 01, "Elements", 50).
 --
---   isClient kind        whether a child of 50.4 is a client ID (for a private test, which no public promise cites)
---   clientsIn row        the client IDs of a 50.4, in byte order
 --   withRuleChild at len q   the rule q with the child at `at`, of len bytes, taken up
 --   ruleAt msg at        the rule of the element at `at`: its children, in byte order, taken up into an empty rule
 --
--- A child of an unlisted type is passed over, as document 01 has it. No test is made here: a ninth entry of a list and a 50.3 over 16 bytes
--- are passed over too, a second copy takes the first one's place, and a byte beyond the message counts as 0; messages with these are
--- refused by tests 6 to 13.
+-- A child of an unlisted type is passed over, as document 01 has it. No test is made here: a ninth number and a 50.3 over 16 bytes are
+-- passed over too, a second copy takes the first one's place, and a byte beyond the message counts as 0; messages with these are
+-- refused by tests 6 to 13. What a 50.4 holds is said in the crate clients.
 -- Tested by: proofs/Bench.antt of the crate reader.
 -- Trusts: nothing.
 use Prim.Native.Nat.{ℕ, _+_}
-use mathlib.Core.Bool.{Bool, cond, not, _&&_}
+use mathlib.Core.Bool.{cond}
 use mathlib.Core.List.{List}
 use lib.ListN.{getD, set, take, drop, replicate}
 use lib.Dec.{eqb, ltb, leb}
 use Rattle.wire.specs.Bytes.{numberAt, pasted}
-use Rattle.table.specs.Table.{emptyClient, emptyRule}
-use Rattle.table.specs.declared.Client.{Client}
+use Rattle.table.specs.Table.{emptyRule}
 use Rattle.table.specs.declared.Rule.{Rule}
-use Rattle.children.specs.Rows.{rowIn, rowInside, rowFold, typeAt}
-use Rattle.rules.specs.declared.Clients.{Clients}
-
-abbrev pub noClients : Clients
-noClients = record { count = 0; list = replicate 8 emptyClient }
-
--- one more client ID; a full list stays
-unfoldable pub withClient : Client → Clients → Clients
-withClient one so = cond (ltb (so .count) 8) (record { count = so .count + 1; list = set (so .list) (so .count) one }) so
-
--- 50.4.1: a broadcast, of length 0 the kind of its own; 50.4.2: a MAC; 50.4.3 and .4: a CA system, an application
-unfoldable pub clientAt : List ℕ → ℕ → ℕ → Client
-clientAt msg at len =
-    cond (eqb (typeAt msg at) 2) (record { kind = 2; value = numberAt 6 msg (at + 2) })
-    (cond (eqb (typeAt msg at) 1)
-    (cond (eqb len 0) (record { kind = 0; value = 0 }) (record { kind = 1; value = numberAt 2 msg (at + 2) }))
-    (record { kind = typeAt msg at; value = numberAt 2 msg (at + 2) }))
-
--- 50.4.1 to 50.4.4
-unfoldable pub isClient : ℕ → Bool
-isClient kind = not (ltb 4 kind) && not (eqb kind 0)
-
-unfoldable pub withClientChild : List ℕ → ℕ → ℕ → Clients → Clients
-withClientChild msg at len so =
-    cond (ltb 4 (typeAt msg at)) so
-    (cond (eqb (typeAt msg at) 0) so
-    (withClient (clientAt msg at len) so))
-
-unfoldable pub clientsIn : List ℕ → ℕ → ℕ → Clients
-clientsIn msg at end = rowFold (withClientChild msg) (rowIn msg at end) noClients
+use Rattle.children.specs.Rows.{rowInside, rowFold, typeAt}
+use Rattle.clients.specs.Clients.{clientsIn}
+use Rattle.clients.specs.declared.Clients.{Clients}
 
 abbrev pub withNumber : ℕ → Rule → Rule
 withNumber v q =

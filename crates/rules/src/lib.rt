@@ -2,10 +2,9 @@
 //
 // One public function, `rule_at`: it takes any message and any place, and takes up the children of the
 // element there in byte order. It makes no test: what a message that passed its tests cannot hold is
-// passed over, and where no element stands the answer is the empty rule. It writes nothing; each walk
+// passed over, and where no element stands the answer is the empty rule. It writes nothing; the walk
 // changes one local.
 use elements::Head;
-use table::Client;
 use table::Rule;
 ghost use mathlib.Core.Path.{_≡_};
 ghost use Prim.Native.Nat.{_+_, _≤_, _<_};
@@ -13,72 +12,7 @@ ghost use lib.ListN.{length, set, take, drop, replicate};
 ghost use Rattle.wire.specs.Bytes.{pasted};
 ghost use Rattle.table.specs.Table.{emptyRule};
 ghost use Rattle.children.specs.Rows.{rowIn, rowFold};
-ghost use Rattle.rules.specs.Rules.{noClients, isClient, clientAt, clientsIn, withRuleChild, ruleAt};
-
-// The client IDs of one rule. Places from the count on hold 0.
-pub struct Clients {
-    pub count: u8,
-    pub list: [Client; 8],
-}
-
-// The client ID of the child of 50.4 at `at` whose value has `len` bytes.
-fn client_at(message: &[u8], at: usize, len: usize) -> Client
-    requires { ⌜ at + 2 + len ≤ length (now message) ⌝ }
-    ensures { λ r. ⌜ r ≡ clientAt (now (message .entry)) at len ⌝ }
-{
-    let kind = message[at];
-    if kind == 2 {
-        let mac = wire::number6(message, at + 2);
-        return Client {
-            kind: 2,
-            value: mac,
-        };
-    }
-    if kind == 1 && len == 0 {
-        return Client { kind: 0, value: 0 };
-    }
-    let number = wire::number2(message, at + 2);
-    Client {
-        kind,
-        value: number as u64,
-    }
-}
-
-// No client ID.
-fn no_clients() -> Clients
-    ensures { λ r. ⌜ r ≡ noClients ⌝ }
-{
-    let list = [table::empty_client(); 8];
-    Clients { count: 0, list }
-}
-
-// Whether a child of 50.4 is a client ID.
-fn is_client(kind: u8) -> bool
-    ensures { λ r. ⌜ r ≡ isClient kind ⌝ }
-{
-    kind <= 4 && kind != 0
-}
-
-// The client IDs of the 50.4 whose value is `from` to `end`.
-fn clients_in(message: &[u8], from: usize, end: usize) -> Clients
-    ensures { λ r. ⌜ r ≡ clientsIn (now (message .entry)) from end ⌝ }
-{
-    let mut clients = no_clients();
-    let mut at = from;
-    loop {
-        let Head::Value(len) = elements::read_head(message, at, end) else {
-            return clients;
-        };
-        let here = at;
-        at = here + 2 + len;
-        let used = clients.count;
-        if is_client(message[here]) && used < 8 {
-            let one = client_at(message, here, len);
-            clients.list[used as usize] = one;
-            clients.count = used + 1;
-        }
-    }
-}
+ghost use Rattle.rules.specs.Rules.{withRuleChild, ruleAt};
 
 // A list of UCIDs: the `len` bytes from `value` on, and 0 behind them.
 fn ucids_at(message: &[u8], value: usize, len: usize) -> [u8; 16]
@@ -128,7 +62,7 @@ fn rule_in(message: &[u8], from: usize, end: usize) -> Rule
                 }
             }
             4 => {
-                let clients = clients_in(message, value, at);
+                let clients = clients::clients_in(message, value, at);
                 let list = clients.list;
                 rule.clients = list;
                 rule.clientcount = clients.count;

@@ -1,4 +1,4 @@
--- `rules::clients_in` gives clientsIn.
+-- `clients::clients_in` gives clientsIn.
 -- The loop keeps that the fold from `at` on, over what it has, is the fold from the start. Every turn is one more step of that fold; what is left falls.
 -- Trusts: nothing.
 use borrow.Author.Needs.{needs}
@@ -8,11 +8,11 @@ use mathlib.Core.Logic.{⊎-elim}
 use native.Mathlib.Omega.{arith}
 use borrow.Author.Tests.{ltb-true}
 use Rattle.children.specs.Rows.{rowFold, rowIn}
-use Rattle.rules.specs.Rules.{withClientChild, clientsIn}
+use Rattle.clients.specs.Clients.{withClientChild, clientsIn}
 use Rattle.children.proofs.Laws.{no-value, item-fits, item-less, fold-stop, fold-item}
-use Rattle.rules.proofs.Laws.{no-client-child, with-client-child, full-client-child}
-use Rattle.rules.proofs.clients_in.Statement.{statement}
-use Rattle.rules.proofs.clients_in.Tie as tie
+use Rattle.clients.proofs.Laws.{no-client-child, with-client-child, full-client-child}
+use Rattle.clients.proofs.clients_in.Statement.{statement}
+use Rattle.clients.proofs.clients_in.Tie as tie
 
 abbrev Inv-loop : tie.InvT-loop
 Inv-loop message from end clients₀ at₀ clients at = rowFold (withClientChild message) (rowIn message at end) clients ≡ clientsIn message from end

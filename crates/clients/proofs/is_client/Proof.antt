@@ -1,10 +1,10 @@
--- `rules::is_client` gives isClient.
+-- `clients::is_client` gives isClient.
 -- Trusts: nothing.
 use borrow.Author.Needs.{needs}
 use borrow.Author.Tests.{lt-ltb, le-ltb, lt-leb}
-use Rattle.rules.specs.Rules.{isClient}
-use Rattle.rules.proofs.is_client.Statement.{statement}
-use Rattle.rules.proofs.is_client.Tie as tie
+use Rattle.clients.specs.Clients.{isClient}
+use Rattle.clients.proofs.is_client.Statement.{statement}
+use Rattle.clients.proofs.is_client.Tie as tie
 
 returns : tie.Need-returns
 unfolding isClient

@@ -1,8 +1,8 @@
--- `rules::no_clients` gives noClients.
+-- `clients::no_clients` gives noClients.
 -- Trusts: nothing.
 use borrow.Author.Needs.{needs}
-use Rattle.rules.proofs.no_clients.Statement.{statement}
-use Rattle.rules.proofs.no_clients.Tie as tie
+use Rattle.clients.proofs.no_clients.Statement.{statement}
+use Rattle.clients.proofs.no_clients.Tie as tie
 
 pub no-clients-spec : {M : Type 1} → statement M
 no-clients-spec =

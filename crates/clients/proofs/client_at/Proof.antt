@@ -1,11 +1,11 @@
--- `rules::client_at` gives clientAt: each return is one way through its tests.
+-- `clients::client_at` gives clientAt: each return is one way through its tests.
 -- Trusts: nothing.
 use mathlib.Core.Logic.{⊎-elim}
 use borrow.Author.Needs.{needs}
 use borrow.Author.Tests.{eq-eqb, ne-eqb}
-use Rattle.rules.specs.Rules.{clientAt}
-use Rattle.rules.proofs.client_at.Statement.{statement}
-use Rattle.rules.proofs.client_at.Tie as tie
+use Rattle.clients.specs.Clients.{clientAt}
+use Rattle.clients.proofs.client_at.Statement.{statement}
+use Rattle.clients.proofs.client_at.Tie as tie
 
 returns : tie.Need-returns
 unfolding clientAt
