@@ -1,15 +1,12 @@
--- Laws of rows and folds (specs/Rows.antt): the count of bytes left does not matter, and one law for each thing that can stand at a place.
+-- Laws of rows (specs/Rows.antt): the count of bytes left does not matter, and one law for each thing that can stand at a place.
 --
 --   rowIn-rule     a row is what its first head says, with the row from the next place on behind it
 --   rowIn-stop     no element stands there: done or bad     rowIn-item      an element and the row behind it
---   fold-stop      a fold where no element stands           fold-item       a fold over an element, then over the rest
 --   rowInside-done no element stands there                  rowInside-row   the row that an element's value is
---   inside-stop    a fold inside no element                 inside-item     a fold inside an element
 --   no-value       End and Refused are not Value
 --   item-fits      an element's bytes lie in its row and in the message      item-less   what is left of the row falls
---   fold-keeps     what every step keeps, a fold keeps
 -- Trusts: nothing.
-use Prim.Native.Nat.{ℕ, zero, suc, _+_, _-_, _≤_, _<_, min}
+use Prim.Native.Nat.{ℕ, zero, suc, _+_, _-_, _≤_, _<_}
 use mathlib.Core.Path.{_≡_, refl, sym, ap, _∙_}
 use mathlib.Core.List.{List, [], _∷_}
 use mathlib.Core.Logic.{⊎-elim}
@@ -22,7 +19,7 @@ use Rattle.elements.specs.declared.Head.{Head}
 use Rattle.elements.specs.declared.Head.the-variants.{End, Refused, Value}
 use Rattle.elements.proofs.Head.{the-type}
 use Rattle.elements.proofs.Laws.{headAt-end, headAt-fits}
-use Rattle.children.specs.Rows.{Row, done, bad, item, rowWith, rowFrom, rowIn, rowOfHead, rowInside, rowFold}
+use Rattle.children.specs.Rows.{Row, done, bad, item, rowWith, rowFrom, rowIn, rowOfHead, rowInside}
 
 -- where a `let` asks for a value and another head stands, no value does
 pub no-value : {h : Head} → OneOf (0 ∷ 1 ∷ []) (tagOf the-type h) → (len : ℕ) → h ≡ Value len → ⊥
@@ -77,15 +74,6 @@ rowIn-stop P msg at end {h} e never d b = rw (rowIn-rule msg at end, ← e) (on 
     on (Refused n) never = b n
     on (Value len) never = absurd (never len refl)
 
-module _ {A : Type 0} (step : ℕ → ℕ → A → A) (msg : List ℕ) (at end : ℕ) (so : A) where
-  -- no element stands there
-  pub fold-stop : {h : Head} → h ≡ headAt msg at end → ((len : ℕ) → h ≡ Value len → ⊥) → so ≡ rowFold step (rowIn msg at end) so
-  fold-stop e never = rowIn-stop (λ row. so ≡ rowFold step row so) msg at end e never refl (λ n. refl)
-
-  pub fold-item : {h : Head} {len : ℕ} {now : A} → h ≡ headAt msg at end → h ≡ Value len → now ≡ step at len so
-      → rowFold step (rowIn msg (at + 2 + len) end) now ≡ rowFold step (rowIn msg at end) so
-  fold-item e v s = simp (s, rowIn-item msg at end e v)
-
 -- the row in an element's value
 module _ (msg : List ℕ) (at : ℕ) where
   pub rowInside-done : {h : Head} → h ≡ headAt msg at (length msg) → ((len : ℕ) → h ≡ Value len → ⊥) → rowInside msg at ≡ done
@@ -100,17 +88,3 @@ module _ (msg : List ℕ) (at : ℕ) where
   pub rowInside-row : {h : Head} {len : ℕ} → h ≡ headAt msg at (length msg) → h ≡ Value len → rowInside msg at ≡ rowIn msg (at + 2) (at + 2 + len)
   unfolding rowInside
   rowInside-row e v = simp (← e, v)
-
--- a fold over that row
-module _ {A : Type 0} (step : ℕ → ℕ → A → A) (msg : List ℕ) (at : ℕ) (so : A) where
-  pub inside-stop : {h : Head} → h ≡ headAt msg at (length msg) → ((len : ℕ) → h ≡ Value len → ⊥) → so ≡ rowFold step (rowInside msg at) so
-  inside-stop e never = simp (rowInside-done msg at e never)
-
-  pub inside-item : {h : Head} {len : ℕ} → h ≡ headAt msg at (length msg) → h ≡ Value len → rowFold step (rowIn msg (at + 2) (at + 2 + len)) so ≡ rowFold step (rowInside msg at) so
-  inside-item e v = simp (rowInside-row msg at e v)
-
-module _ {A : Type 0} (P : A → Type 0) (step : ℕ → ℕ → A → A) (keep : (at len : ℕ) (so : A) → P so → P (step at len so)) where
-  pub fold-keeps : (row : Row) (so : A) → P so → P (rowFold step row so)
-  fold-keeps done so p = p
-  fold-keeps (bad at n) so p = p
-  fold-keeps (item at len rest) so p = fold-keeps rest (step at len so) (keep at len so p)

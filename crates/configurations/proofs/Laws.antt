@@ -16,7 +16,7 @@ use Rattle.table.specs.declared.TimerValues.{TimerValues}
 use Rattle.children.specs.Rows.{typeAt, rowInside}
 use Rattle.configurations.specs.Configurations.{emptyConfiguration, withChannel, withTimers, withTimer, withConfigurationChild, configurationAt}
 use Rattle.configurations.specs.declared.Configuration.{Configuration}
-use Rattle.children.proofs.Laws.{fold-keeps}
+use Rattle.children.proofs.LawsFolds.{fold-keeps}
 
 -- a child of 51: a timer value or nothing, one channel more, and one that has no place
 module _ (msg : List ℕ) (at len : ℕ) (q : Configuration) where

@@ -12,7 +12,7 @@
 use Prim.Native.Nat.{ℕ, _+_}
 use mathlib.Core.Bool.{cond}
 use mathlib.Core.List.{List}
-use lib.ListN.{getD, set, replicate}
+use lib.ListN.{set, replicate}
 use lib.Dec.{eqb, ltb}
 use Rattle.wire.specs.Bytes.{numberAt}
 use Rattle.table.specs.Table.{defaultTimers}

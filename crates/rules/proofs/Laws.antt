@@ -7,12 +7,11 @@
 use Prim.Native.Nat.{ℕ, _+_, _≤_, _<_}
 use mathlib.Core.Path.{_≡_, refl}
 use mathlib.Core.List.{List}
-use native.Mathlib.Omega.{arith}
 use borrow.Author.Tests.{lt-ltb, le-ltb, le-leb, lt-leb, ne-eqb}
 use mathlib.Core.Bool.{Bool, true, false, cond}
 use lib.Dec.{eqb, leb, ltb}
 use Rattle.table.specs.Table.{emptyRule}
-use Rattle.children.proofs.Laws.{fold-keeps}
+use Rattle.children.proofs.LawsFolds.{fold-keeps}
 use lib.ListN.{length, length-set, getD, set, take, drop, replicate}
 use Rattle.wire.specs.Bytes.{numberAt, pasted}
 use Rattle.table.specs.declared.Rule.{Rule}

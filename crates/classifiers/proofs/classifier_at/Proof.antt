@@ -3,7 +3,8 @@
 use borrow.Author.Needs.{needs}
 use mathlib.Core.Path.{_∙_}
 use native.Mathlib.Omega.{arith}
-use Rattle.children.proofs.Laws.{no-value, item-fits, inside-stop, inside-item}
+use Rattle.children.proofs.Laws.{no-value, item-fits}
+use Rattle.children.proofs.LawsFolds.{inside-stop, inside-item}
 use Rattle.classifiers.specs.Classifiers.{classifierAt}
 use Rattle.classifiers.proofs.classifier_at.Statement.{statement}
 use Rattle.classifiers.proofs.classifier_at.Tie as tie

@@ -2,12 +2,13 @@
 -- The loop keeps that the fold from `at` on, over what it has, is the fold from the start. Every turn is one more step of that fold; what is left falls.
 -- Trusts: nothing.
 use borrow.Author.Needs.{needs}
-use Prim.Native.Nat.{ℕ, _-_}
-use mathlib.Core.Path.{_≡_, refl, sym, ap, _∙_}
+use Prim.Native.Nat.{_-_}
+use mathlib.Core.Path.{_≡_, refl, _∙_}
 use native.Mathlib.Omega.{arith}
 use Rattle.children.specs.Rows.{rowFold, rowIn}
 use Rattle.classifiers.specs.Classifiers.{withPartChild, withPart}
-use Rattle.children.proofs.Laws.{no-value, item-fits, item-less, fold-stop, fold-item}
+use Rattle.children.proofs.Laws.{no-value, item-fits, item-less}
+use Rattle.children.proofs.LawsFolds.{fold-stop, fold-item}
 use Rattle.classifiers.proofs.with_part.Statement.{statement}
 use Rattle.classifiers.proofs.with_part.Tie as tie
 

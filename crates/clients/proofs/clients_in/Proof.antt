@@ -2,14 +2,15 @@
 -- The loop keeps that the fold from `at` on, over what it has, is the fold from the start. Every turn is one more step of that fold; what is left falls.
 -- Trusts: nothing.
 use borrow.Author.Needs.{needs}
-use Prim.Native.Nat.{ℕ, _-_}
-use mathlib.Core.Path.{_≡_, refl, sym, ap, _∙_}
+use Prim.Native.Nat.{_-_}
+use mathlib.Core.Path.{_≡_, _∙_}
 use mathlib.Core.Logic.{⊎-elim}
 use native.Mathlib.Omega.{arith}
 use borrow.Author.Tests.{ltb-true}
 use Rattle.children.specs.Rows.{rowFold, rowIn}
 use Rattle.clients.specs.Clients.{withClientChild, clientsIn}
-use Rattle.children.proofs.Laws.{no-value, item-fits, item-less, fold-stop, fold-item}
+use Rattle.children.proofs.Laws.{no-value, item-fits, item-less}
+use Rattle.children.proofs.LawsFolds.{fold-stop, fold-item}
 use Rattle.clients.proofs.Laws.{no-client-child, with-client-child, full-client-child}
 use Rattle.clients.proofs.clients_in.Statement.{statement}
 use Rattle.clients.proofs.clients_in.Tie as tie

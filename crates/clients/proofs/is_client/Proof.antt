@@ -1,6 +1,5 @@
 -- `clients::is_client` gives isClient.
 -- Trusts: nothing.
-use borrow.Author.Needs.{needs}
 use borrow.Author.Tests.{lt-ltb, le-ltb, lt-leb}
 use Rattle.clients.specs.Clients.{isClient}
 use Rattle.clients.proofs.is_client.Statement.{statement}

@@ -2,12 +2,13 @@
 -- The loop keeps that the fold from `at` on, over what it has, is the fold from the start. Every turn is one more step of that fold; what is left falls.
 -- Trusts: nothing.
 use borrow.Author.Needs.{needs}
-use Prim.Native.Nat.{ℕ, _-_}
-use mathlib.Core.Path.{_≡_, refl, sym, ap, _∙_}
+use Prim.Native.Nat.{_-_}
+use mathlib.Core.Path.{_≡_, _∙_}
 use native.Mathlib.Omega.{arith}
 use Rattle.children.specs.Rows.{rowFold, rowIn}
 use Rattle.configurations.specs.Configurations.{emptyConfiguration, withConfigurationChild}
-use Rattle.children.proofs.Laws.{no-value, item-fits, item-less, fold-stop, fold-item}
+use Rattle.children.proofs.Laws.{no-value, item-fits, item-less}
+use Rattle.children.proofs.LawsFolds.{fold-stop, fold-item}
 use Rattle.configurations.proofs.Laws.{with-timer-child, with-channel-child, full-channel-child}
 use Rattle.configurations.proofs.configuration_in.Statement.{statement}
 use Rattle.configurations.proofs.configuration_in.Tie as tie

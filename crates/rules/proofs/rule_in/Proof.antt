@@ -2,8 +2,8 @@
 -- The loop keeps that the fold from `at` on, over what it has, is the fold from the start. Every arm is one more step of that fold; what is left falls.
 -- Trusts: nothing.
 use borrow.Author.Needs.{needs}
-use Prim.Native.Nat.{ℕ, _+_, _-_, _<_}
-use mathlib.Core.Path.{_≡_, refl, sym, ap, _∙_}
+use Prim.Native.Nat.{_+_, _-_, _<_}
+use mathlib.Core.Path.{_≡_, _∙_}
 use denote.Ref.{now}
 use native.Mathlib.Omega.{arith}
 use Rattle.wire.proofs.Laws.{numberAt-one}
@@ -11,7 +11,8 @@ use Rattle.children.specs.Rows.{rowFold, rowIn}
 use Rattle.table.specs.Table.{emptyRule}
 use Rattle.table.specs.declared.Rule.{Rule}
 use Rattle.rules.specs.Rules.{withRuleChild}
-use Rattle.children.proofs.Laws.{no-value, item-fits, item-less, fold-stop, fold-item}
+use Rattle.children.proofs.Laws.{no-value, item-fits, item-less}
+use Rattle.children.proofs.LawsFolds.{fold-stop, fold-item}
 use Rattle.rules.proofs.Laws.{withRuleChild-number, withRuleChild-priority, withRuleChild-ucids, withRuleChild-long, withRuleChild-clients, withRuleChild-tunnel, withRuleChild-named, withRuleChild-full, withRuleChild-other}
 use Rattle.rules.proofs.rule_in.Statement.{statement}
 use Rattle.rules.proofs.rule_in.Tie as tie
