@@ -24,7 +24,7 @@ use Rattle.rows.specs.Rows.{elementWith, noted, goOn, onHead, rowStep, rowOf, e
 use Rattle.rows.specs.declared.Tally.{Tally}
 use Rattle.element_tests.specs.declared.Step.{Step}
 use Rattle.rows.specs.declared.Fault.{Fault}
-use Rattle.contents.specs.Rows.{rowWith, rowFrom, rowIn, rowInside, typeAt, placesOf}
+use Rattle.children.specs.Rows.{rowWith, rowFrom, rowIn, rowInside, typeAt, placesOf}
 use Rattle.demands.proofs.LawsCount.{Counted, element-passed, Repeats, turn-room}
 
 -- ---- the table on 50, 50.6 and 23: a rule is place 1, its numbers are list 5 of its row, classifiers are list 0 of the top level

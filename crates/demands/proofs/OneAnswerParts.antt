@@ -7,6 +7,7 @@ use denote.Ref.{now}
 use Rattle.demands.proofs.Contract.{One, only, answer}
 use Rattle.demands.proofs.Parts as parts
 use Rattle.listing.specs.Listing.{Listing, written}
+use Rattle.wire.proofs.number1.Reads as number1
 use Rattle.wire.proofs.number2.Reads as number2
 use Rattle.wire.proofs.number4.Reads as number4
 use Rattle.wire.proofs.number6.Reads as number6
@@ -23,9 +24,10 @@ use Rattle.elements.proofs.types.lacks_must.Reads as lacks_must
 use Rattle.element_tests.proofs.own_tests.Reads as own_tests
 use Rattle.rows.proofs.empty_tally.Reads as empty_tally
 use Rattle.rows.proofs.test_element.Reads as test_element
-use Rattle.contents.proofs.rule_at.Reads as rule_at
-use Rattle.contents.proofs.classifier_at.Reads as classifier_at
-use Rattle.contents.proofs.configuration_at.Reads as configuration_at
+use Rattle.clients.proofs.clients_in.Reads as clients_in
+use Rattle.rules.proofs.rule_at.Reads as rule_at
+use Rattle.classifiers.proofs.classifier_at.Reads as classifier_at
+use Rattle.configurations.proofs.configuration_at.Reads as configuration_at
 use Rattle.collection.proofs.begin.Reads as begin
 use Rattle.collection.proofs.is_of.Reads as is_of
 use Rattle.collection.proofs.refuse.Reads as refuse
@@ -40,6 +42,9 @@ use Rattle.listing.proofs.list_refusal.Reads as list_refusal
 use Rattle.listing.proofs.list_waiting.Reads as list_waiting
 
 -- ---- wire
+
+pub number1-one : (κs : Lfts 1) → One answer (number1.Post κs)
+number1-one κs = only (parts.number1-gives κs)
 
 pub number2-one : (κs : Lfts 1) → One answer (number2.Post κs)
 number2-one κs = only (parts.number2-gives κs)
@@ -97,7 +102,10 @@ empty_tally-one κs = only (parts.empty_tally-gives κs)
 pub test_element-one : (κs : Lfts 1) → One answer (test_element.Post κs)
 test_element-one κs = only (parts.test_element-gives κs)
 
--- ---- contents
+-- ---- clients, rules, classifiers, configurations
+
+pub clients_in-one : (κs : Lfts 1) → One answer (clients_in.Post κs)
+clients_in-one κs = only (parts.clients_in-gives κs)
 
 pub rule_at-one : (κs : Lfts 1) → One answer (rule_at.Post κs)
 rule_at-one κs = only (parts.rule_at-gives κs)

@@ -1,4 +1,4 @@
--- Parts: what the public functions of the lower crates give (wire, table, elements, element_tests, rows, contents, collection, matching, listing, bodies): each its definition, for every input.
+-- Parts: what the public functions of the lower crates give (wire, table, elements, element_tests, rows, clients, rules, classifiers, configurations, collection, matching, listing, bodies): each its definition, for every input.
 --
 -- It says nothing of what the definitions mean; docs/MAP.md says where they stand. `met` of each function, in its own crate, says that the
 -- compiled function meets the contract cited here.
@@ -10,6 +10,7 @@ use contract.Lifetimes.{Lfts}
 use denote.Ref.{now}
 use Rattle.demands.proofs.Contract.{Gives, answer}
 use Rattle.wire.specs.Bytes.{numberAt, pasted, sameBytes}
+use Rattle.wire.proofs.number1.Reads as number1
 use Rattle.wire.proofs.number2.Reads as number2
 use Rattle.wire.proofs.number4.Reads as number4
 use Rattle.wire.proofs.number6.Reads as number6
@@ -32,12 +33,14 @@ use Rattle.rows.specs.Tests.{emptyTally}
 use Rattle.rows.specs.Rows.{testedAt}
 use Rattle.rows.proofs.empty_tally.Reads as empty_tally
 use Rattle.rows.proofs.test_element.Reads as test_element
-use Rattle.contents.specs.Rules.{ruleAt}
-use Rattle.contents.specs.Classifiers.{classifierAt}
-use Rattle.contents.specs.Configurations.{configurationAt}
-use Rattle.contents.proofs.rule_at.Reads as rule_at
-use Rattle.contents.proofs.classifier_at.Reads as classifier_at
-use Rattle.contents.proofs.configuration_at.Reads as configuration_at
+use Rattle.clients.specs.Clients.{clientsIn}
+use Rattle.rules.specs.Rules.{ruleAt}
+use Rattle.classifiers.specs.Classifiers.{classifierAt}
+use Rattle.configurations.specs.Configurations.{configurationAt}
+use Rattle.clients.proofs.clients_in.Reads as clients_in
+use Rattle.rules.proofs.rule_at.Reads as rule_at
+use Rattle.classifiers.proofs.classifier_at.Reads as classifier_at
+use Rattle.configurations.proofs.configuration_at.Reads as configuration_at
 use Rattle.collection.specs.Record.{isOf, emptyCollection}
 use Rattle.collection.specs.Refusals.{refusalOf}
 use Rattle.collection.proofs.begin.Reads as begin
@@ -59,6 +62,9 @@ use Rattle.listing.proofs.list_refusal.Reads as list_refusal
 use Rattle.listing.proofs.list_waiting.Reads as list_waiting
 
 -- ---- wire
+
+pub number1-gives : (κs : Lfts 1) → Gives answer (number1.Post κs) (λ a. numberAt 1 (now (a .0)) (a .1 .0))
+number1-gives κs a x s h = h
 
 pub number2-gives : (κs : Lfts 1) → Gives answer (number2.Post κs) (λ a. numberAt 2 (now (a .0)) (a .1 .0))
 number2-gives κs a x s h = h
@@ -116,7 +122,10 @@ empty_tally-gives κs a x s h = h
 pub test_element-gives : (κs : Lfts 1) → Gives answer (test_element.Post κs) (λ a. testedAt (now (a .0)) (a .1 .0) (a .1 .1 .0))
 test_element-gives κs a x s h = h
 
--- ---- contents
+-- ---- clients, rules, classifiers, configurations
+
+pub clients_in-gives : (κs : Lfts 1) → Gives answer (clients_in.Post κs) (λ a. clientsIn (now (a .0)) (a .1 .0) (a .1 .1 .0))
+clients_in-gives κs a x s h = h
 
 pub rule_at-gives : (κs : Lfts 1) → Gives answer (rule_at.Post κs) (λ a. ruleAt (now (a .0)) (a .1 .0))
 rule_at-gives κs a x s h = h

@@ -17,7 +17,7 @@ use Rattle.table.specs.Table.{limitedTo, rulesOf, classifiersOf, emptyRule, emp
 use Rattle.table.specs.declared.Rule.{Rule}
 use Rattle.table.specs.declared.Classifier.{Classifier}
 use Rattle.table.specs.declared.Table.{Table}
-use Rattle.contents.specs.declared.Configuration.{Configuration}
+use Rattle.configurations.specs.declared.Configuration.{Configuration}
 use Rattle.reader.specs.Take.{withRule, withClassifier, withConfiguration, ruleNumbers, classifierNumbers, RulesSized}
 use Rattle.reader.proofs.Lists.{front-more, getD-set}
 

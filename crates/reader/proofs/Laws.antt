@@ -23,7 +23,7 @@ use Rattle.elements.proofs.Laws.{headAt-starts, headAt-fits}
 use Rattle.table.specs.Table.{rulesOf, numbersOf, emptyTable}
 use Rattle.table.specs.declared.Rule.{Rule}
 use Rattle.table.specs.declared.Table.{Table}
-use Rattle.contents.specs.Rows.{Row, done, bad, item, rowWith, rowFrom, rowIn, rowOfHead, rowInside, rowFold, typeAt, placesOf}
+use Rattle.children.specs.Rows.{Row, done, bad, item, rowWith, rowFrom, rowIn, rowOfHead, rowInside, rowFold, typeAt, placesOf}
 use Rattle.rows.specs.Tests.{emptyTally}
 use Rattle.rows.specs.Rows.{testedAt}
 use Rattle.rows.specs.declared.Tally.{Tally}

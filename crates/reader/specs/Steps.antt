@@ -13,7 +13,7 @@ use mathlib.Core.List.{List}
 use lib.ListN.{length, take}
 use Rattle.table.specs.Table.{emptyTable}
 use Rattle.table.specs.declared.Table.{Table}
-use Rattle.contents.specs.Rows.{rowIn}
+use Rattle.children.specs.Rows.{rowIn}
 use Rattle.rows.specs.Tests.{emptyTally}
 use Rattle.reader.specs.Take.{unanswered, namedPlace, classifierNumbers, RulesSized}
 use Rattle.reader.specs.Read.{refusal, readLone, readRow}

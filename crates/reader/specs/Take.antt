@@ -20,11 +20,11 @@ use Rattle.table.specs.Table.{emptyRule, emptyTable, rulesOf, classifiersOf, nu
 use Rattle.table.specs.declared.Rule.{Rule}
 use Rattle.table.specs.declared.Classifier.{Classifier}
 use Rattle.table.specs.declared.Table.{Table}
-use Rattle.contents.specs.Rows.{rowIn, rowInside, rowFold, typeAt, placesOf}
-use Rattle.contents.specs.Rules.{ruleAt}
-use Rattle.contents.specs.Classifiers.{classifierAt}
-use Rattle.contents.specs.Configurations.{configurationAt}
-use Rattle.contents.specs.declared.Configuration.{Configuration}
+use Rattle.children.specs.Rows.{rowIn, rowInside, rowFold, typeAt, placesOf}
+use Rattle.rules.specs.Rules.{ruleAt}
+use Rattle.classifiers.specs.Classifiers.{classifierAt}
+use Rattle.configurations.specs.Configurations.{configurationAt}
+use Rattle.configurations.specs.declared.Configuration.{Configuration}
 use Rattle.reader.specs.declared.Lone.{Lone}
 use Rattle.reader.specs.declared.Lone.the-variants.{Answered, Number}
 

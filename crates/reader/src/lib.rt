@@ -12,7 +12,7 @@ use table::Table;
 ghost use mathlib.Core.Path.{_≡_};
 ghost use Prim.Native.Nat.{_≤_};
 ghost use lib.ListN.{length, getD, set, take, replicate};
-ghost use Rattle.contents.specs.Rows.{rowIn, placesOf};
+ghost use Rattle.children.specs.Rows.{rowIn, placesOf};
 ghost use Rattle.table.specs.Table.{limitedTo};
 ghost use Rattle.reader.specs.Take.{isListed, unanswered, namedPlace, classifierNumbers, RulesSized};
 ghost use Rattle.reader.specs.Read.{refusal, readTable};
@@ -191,7 +191,7 @@ fn take_up(message: &[u8], carried: &mut [u16; 32]) -> Taken
         let kind = message[here];
         match kind {
             50 => {
-                let rule = contents::rule_at(message, here);
+                let rule = rules::rule_at(message, here);
                 let used = table.rulecount;
                 if is_taken(&mut ruleids, used, rule.number as u16) {
                     return Taken {
@@ -206,7 +206,7 @@ fn take_up(message: &[u8], carried: &mut [u16; 32]) -> Taken
                 }
             }
             23 => {
-                let classifier = contents::classifier_at(message, here);
+                let classifier = classifiers::classifier_at(message, here);
                 let used = table.classifiercount;
                 if is_taken(carried, used, classifier.number) {
                     return Taken {
@@ -221,7 +221,7 @@ fn take_up(message: &[u8], carried: &mut [u16; 32]) -> Taken
                 }
             }
             51 => {
-                let configuration = contents::configuration_at(message, here);
+                let configuration = configurations::configuration_at(message, here);
                 let channels = configuration.channels;
                 let timers = configuration.timers;
                 table.channels = channels;

@@ -1,7 +1,8 @@
 -- Laws of numberAt, pasted and sameBytes (specs/Bytes.antt).
 --
 --   numberAt-past     no byte there: 0                 numberAt-below    below 256 ^ w, of bytes
---   numberAt-add      a number of v + w bytes          numberAt-same     equal bytes give equal numbers
+--   numberAt-one      a number of one byte             numberAt-add      a number of v + w bytes
+--   numberAt-same     equal bytes give equal numbers
 --   numberAt-only     equal numbers of bytes have equal bytes
 --   pasted-fits       the piece fits: where it goes    pasted-not        it does not: the target
 --   length-pasted     the target's length              part-pasted       what stands where it went
@@ -32,6 +33,10 @@ numberAt-past zero b at h = refl
 numberAt-past (suc w) b at h =
     let q : length b ≤ at + w = omega arith in
     omega (arith, numberAt-past w b at h, List·getD-eq-default b 0 q)
+
+pub numberAt-one : (b : List ℕ) (at : ℕ) → numberAt 1 b at ≡ getD b at 0
+unfolding numberAt
+numberAt-one b at = simp (add-zero at) (omega arith)
 
 pub numberAt-below : (w : ℕ) (b : List ℕ) (at : ℕ) → ((k : ℕ) → getD b k 0 < 256) → numberAt w b at < 256 ^ w
 unfolding numberAt

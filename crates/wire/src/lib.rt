@@ -1,7 +1,7 @@
 // Big-endian numbers out of bytes, a piece copied into a buffer, two parts compared.
 //
-// Five public functions: `number2`, `number4`, `number6`, `copy_at` and `same_bytes`. They take any
-// slices and any place and refuse nothing: a byte beyond the end counts as 0, and a piece that does
+// Six public functions: `number1`, `number2`, `number4`, `number6`, `copy_at` and `same_bytes`. They take
+// any slices and any place and refuse nothing: a byte beyond the end counts as 0, and a piece that does
 // not fit leaves its target as it was. Only `copy_at` writes, and only where the piece goes.
 ghost use mathlib.Core.Path.{_≡_};
 ghost use Prim.Native.Nat.{_+_, _-_, _^_, _≤_, _<_};
@@ -58,6 +58,16 @@ fn four(bytes: &[u8], at: usize) -> u32
     ensures { λ r. ⌜ r ≡ numberAt 4 (now (bytes .entry)) at ⌝ }
 {
     (pair(bytes, at) as u32) * 65536 + (pair(bytes, at + 2) as u32)
+}
+
+// The number of the one byte at `at`.
+pub fn number1(bytes: &[u8], at: usize) -> u8
+    ensures { λ r. ⌜ r ≡ numberAt 1 (now (bytes .entry)) at ⌝ }
+{
+    if at < bytes.len() {
+        return bytes[at];
+    }
+    0
 }
 
 // The number of the two bytes from `at`.

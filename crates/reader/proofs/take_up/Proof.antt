@@ -6,7 +6,7 @@ use Prim.Native.Nat.{ℕ, _-_, _+_, _≤_}
 use mathlib.Core.Path.{_≡_, refl, sym, ap, _∙_}
 use native.Mathlib.Omega.{arith}
 use lib.ListN.{length}
-use Rattle.contents.proofs.LawsRules.{length-numbers}
+use Rattle.rules.proofs.Laws.{length-numbers}
 use Rattle.reader.proofs.LawsRead.{next-fits, next-less, isTaken-rule, isTaken-classifier, isTaken-other, withElement-rule, withElement-classifier, withElement-configuration, withElement-other}
 use Rattle.reader.proofs.Kept.{Kept, kept-empty, kept-rule, kept-rulefull, kept-classifier, kept-classifierfull, kept-configuration, withRule-pushed, withRule-full, withClassifier-pushed, withClassifier-full}
 use Rattle.reader.proofs.LawsSteps.{Rests, rests-empty, rests-on, takes-refused, takes-taken, takes-whole}

@@ -1,0 +1,1 @@
+// Definitions and laws only: the children of a row, in byte order.

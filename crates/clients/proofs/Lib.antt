@@ -1,0 +1,2 @@
+-- Laws: what a child of a 50.4 sets.
+pub mod Laws

@@ -1,0 +1,76 @@
+-- `rules::rule_in` gives the fold of withRuleChild.
+-- The loop keeps that the fold from `at` on, over what it has, is the fold from the start. Every arm is one more step of that fold; what is left falls.
+-- Trusts: nothing.
+use borrow.Author.Needs.{needs}
+use Prim.Native.Nat.{_+_, _-_, _<_}
+use mathlib.Core.Path.{_≡_, _∙_}
+use denote.Ref.{now}
+use native.Mathlib.Omega.{arith}
+use Rattle.wire.proofs.Laws.{numberAt-one}
+use Rattle.children.specs.Rows.{rowFold, rowIn}
+use Rattle.table.specs.Table.{emptyRule}
+use Rattle.table.specs.declared.Rule.{Rule}
+use Rattle.rules.specs.Rules.{withRuleChild}
+use Rattle.children.proofs.Laws.{no-value, item-fits, item-less}
+use Rattle.children.proofs.LawsFolds.{fold-stop, fold-item}
+use Rattle.rules.proofs.Laws.{withRuleChild-number, withRuleChild-priority, withRuleChild-ucids, withRuleChild-long, withRuleChild-clients, withRuleChild-tunnel, withRuleChild-named, withRuleChild-full, withRuleChild-other}
+use Rattle.rules.proofs.rule_in.Statement.{statement}
+use Rattle.rules.proofs.rule_in.Tie as tie
+
+abbrev Inv-loop : tie.InvT-loop
+Inv-loop message from end rule₀ at₀ rule at =
+    rowFold (withRuleChild message) (rowIn message at end) rule ≡ rowFold (withRuleChild message) (rowIn message from end) emptyRule
+
+abbrev μ-loop : tie.MeasureT-loop
+μ-loop message from end rule₀ at₀ rule at = end - at
+
+-- a turn: the child whose type has been read is taken up, and what is left falls
+module _ (c : tie.After-shared-slice-known2 Inv-loop μ-loop) where
+  less : let a = c .before .before .before .before .before .before .before .before .args in let i = c .before .before .before .before .before .loop in a .end - (i .at + 2 + c .before .before .len .given .0 .0) < a .end - i .at
+  less = item-less _ _ _ (c .before .before .before .before .read-head .ensures) (c .before .before .len .given .1)
+
+  turn : {rule : Rule} → let a = c .before .before .before .before .before .before .before .before .args in let i = c .before .before .before .before .before .loop in let len = c .before .before .len .given .0 .0 in rule ≡ withRuleChild (now (a .message)) (i .at) len (i .rule)
+      → rowFold (withRuleChild (now (a .message))) (rowIn (now (a .message)) (i .at + 2 + len) (a .end)) rule ≡ rowFold (withRuleChild (now (a .message))) (rowIn (now (a .message)) (a .from) (a .end)) emptyRule
+  turn e = fold-item _ _ _ _ _ (c .before .before .before .before .read-head .ensures) (c .before .before .len .given .1) e ∙ c .before .before .before .before .before .loop .inv
+
+pub rule-in-spec : {M : Type 1} → statement M
+rule-in-spec =
+    tie.close
+    (tie.spec
+    Inv-loop
+    μ-loop
+    (λ c κs. search needs)
+    (λ c. rw (c .empty-rule .ensures))
+    (λ c κs. search needs)
+    (λ c. search needs)
+    (λ c. fold-stop _ _ _ _ _ (c .before .read-head .ensures) (no-value (c .match .keys2)) ∙ c .before .before .loop .inv)
+    (λ c. let fits = item-fits _ _ _ (c .before .before .before .before .read-head .ensures) (c .before .before .len .given .1) in omega arith)
+    (λ c. let fits = item-fits _ _ _ (c .before .before .before .before .read-head .ensures) (c .before .before .len .given .1) in omega arith)
+    (λ c. let fits = item-fits _ _ _ (c .before .before .before .before .read-head .ensures) (c .before .before .len .given .1) in omega arith)
+    (λ c κs. search needs)
+    (λ c. less (c .before .before))
+    (λ c. turn (c .before .before) (withRuleChild-number _ _ _ _ (c .before .match2 .keys1) (c .number1 .ensures ∙ numberAt-one _ _)))
+    (λ c κs. search needs)
+    (λ c. less (c .before .before))
+    (λ c. turn (c .before .before) (withRuleChild-priority _ _ _ _ (c .before .match2 .keys2) (c .number12 .ensures ∙ numberAt-one _ _)))
+    (λ c κs. let fits = item-fits _ _ _ (c .before .before .before .before .before .before .read-head .ensures) (c .before .before .before .before .len .given .1) in (c .if1 .taken, omega arith))
+    (λ c. search needs)
+    (λ c. less (c .before .before .before))
+    (λ c. turn (c .before .before .before) (withRuleChild-ucids _ _ _ _ (c .before .before .match2 .keys3) (c .before .if1 .taken) (c .ucids-at .ensures)))
+    (λ c. less (c .before .before))
+    (λ c. turn (c .before .before) (withRuleChild-long _ _ _ _ (c .before .match2 .keys3) (c .if1 .left)))
+    (λ c κs. search needs)
+    (λ c. less (c .before .before .before))
+    (λ c. turn (c .before .before .before) (withRuleChild-clients _ _ _ _ (c .before .before .match2 .keys4) (c .before .clients-in .ensures)))
+    (λ c κs. search needs)
+    (λ c. less (c .before .before))
+    (λ c. turn (c .before .before) (withRuleChild-tunnel _ _ _ _ (c .before .match2 .keys5) (c .number6 .ensures)))
+    (λ c κs. search needs)
+    (λ c κs. search needs)
+    (λ c. search needs)
+    (λ c. less (c .before .before .before .before .before))
+    (λ c. turn (c .before .before .before .before .before) (withRuleChild-named _ _ _ _ (c .before .before .before .before .match2 .keys6) (c .before .before .before .if2 .taken) (c .before .number2 .ensures) (c .with-number .ensures)))
+    (λ c. less (c .before .before))
+    (λ c. turn (c .before .before) (withRuleChild-full _ _ _ _ (c .before .match2 .keys6) (c .if2 .left)))
+    (λ c. less (c .before))
+    (λ c. turn (c .before) (withRuleChild-other _ _ _ _ (c .match2 .rest .0 .0 .0 .0 .0 .1) (c .match2 .rest .0 .0 .0 .0 .1) (c .match2 .rest .0 .0 .0 .1) (c .match2 .rest .0 .0 .1) (c .match2 .rest .0 .1) (c .match2 .rest .1))))

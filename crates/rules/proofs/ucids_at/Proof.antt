@@ -1,0 +1,20 @@
+-- `rules::ucids_at` copies the bytes of the value over a list of 0.
+-- Trusts: nothing.
+use borrow.Author.Needs.{needs}
+use Prim.Native.Nat.{_+_, _-_}
+use mathlib.Core.Path.{_≡_, _∙_}
+use native.Mathlib.Omega.{arith}
+use Rattle.rules.proofs.ucids_at.Statement.{statement}
+use Rattle.rules.proofs.ucids_at.Tie as tie
+
+pub ucids-at-spec : {M : Type 1} → statement M
+ucids-at-spec =
+    tie.close
+    (tie.spec
+    (λ c. search needs)
+    (λ c. search needs)
+    (λ c. search needs)
+    (λ c. search needs)
+    (λ c. search needs)
+    (λ c κs. search needs)
+    (λ c. let n : c .before .before .before .before .before .args .value + c .before .before .before .before .before .args .len - c .before .before .before .before .before .args .value ≡ c .before .before .before .before .before .args .len = omega arith in c .before .copy-at .ensures ∙ simp n))
