@@ -1,6 +1,6 @@
 // The client IDs that the row of a 50.4 holds.
 //
-// One public function, `clients_in`: it takes any message and any two places, and takes up the children
+// One public function, `read_clients`: it takes any message and any two places, and takes up the children
 // between them in byte order. It makes no test: what a message that passed its tests cannot hold is
 // passed over. It writes nothing; the walk changes one local.
 use elements::Head;
@@ -55,7 +55,7 @@ fn is_client(kind: u8) -> bool
 }
 
 // The client IDs of the 50.4 whose value is the row `from` to `end`.
-pub fn clients_in(message: &[u8], from: usize, end: usize) -> Clients
+pub fn read_clients(message: &[u8], from: usize, end: usize) -> Clients
     ensures { λ r. ⌜ r ≡ clientsIn (now (message .entry)) from end ⌝ }
 {
     let mut clients = no_clients();

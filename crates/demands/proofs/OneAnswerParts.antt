@@ -24,7 +24,7 @@ use Rattle.elements.proofs.types.lacks_must.Reads as lacks_must
 use Rattle.element_tests.proofs.own_tests.Reads as own_tests
 use Rattle.rows.proofs.empty_tally.Reads as empty_tally
 use Rattle.rows.proofs.test_element.Reads as test_element
-use Rattle.clients.proofs.clients_in.Reads as clients_in
+use Rattle.clients.proofs.read_clients.Reads as read_clients
 use Rattle.rules.proofs.rule_at.Reads as rule_at
 use Rattle.classifiers.proofs.classifier_at.Reads as classifier_at
 use Rattle.configurations.proofs.configuration_at.Reads as configuration_at
@@ -104,8 +104,8 @@ test_element-one κs = only (parts.test_element-gives κs)
 
 -- ---- clients, rules, classifiers, configurations
 
-pub clients_in-one : (κs : Lfts 1) → One answer (clients_in.Post κs)
-clients_in-one κs = only (parts.clients_in-gives κs)
+pub read_clients-one : (κs : Lfts 1) → One answer (read_clients.Post κs)
+read_clients-one κs = only (parts.read_clients-gives κs)
 
 pub rule_at-one : (κs : Lfts 1) → One answer (rule_at.Post κs)
 rule_at-one κs = only (parts.rule_at-gives κs)

@@ -37,7 +37,7 @@ use Rattle.clients.specs.Clients.{clientsIn}
 use Rattle.rules.specs.Rules.{ruleAt}
 use Rattle.classifiers.specs.Classifiers.{classifierAt}
 use Rattle.configurations.specs.Configurations.{configurationAt}
-use Rattle.clients.proofs.clients_in.Reads as clients_in
+use Rattle.clients.proofs.read_clients.Reads as read_clients
 use Rattle.rules.proofs.rule_at.Reads as rule_at
 use Rattle.classifiers.proofs.classifier_at.Reads as classifier_at
 use Rattle.configurations.proofs.configuration_at.Reads as configuration_at
@@ -124,8 +124,8 @@ test_element-gives κs a x s h = h
 
 -- ---- clients, rules, classifiers, configurations
 
-pub clients_in-gives : (κs : Lfts 1) → Gives answer (clients_in.Post κs) (λ a. clientsIn (now (a .0)) (a .1 .0) (a .1 .1 .0))
-clients_in-gives κs a x s h = h
+pub read_clients-gives : (κs : Lfts 1) → Gives answer (read_clients.Post κs) (λ a. clientsIn (now (a .0)) (a .1 .0) (a .1 .1 .0))
+read_clients-gives κs a x s h = h
 
 pub rule_at-gives : (κs : Lfts 1) → Gives answer (rule_at.Post κs) (λ a. ruleAt (now (a .0)) (a .1 .0))
 rule_at-gives κs a x s h = h

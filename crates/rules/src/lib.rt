@@ -62,7 +62,7 @@ fn rule_in(message: &[u8], from: usize, end: usize) -> Rule
                 }
             }
             4 => {
-                let clients = clients::clients_in(message, value, at);
+                let clients = clients::read_clients(message, value, at);
                 let list = clients.list;
                 rule.clients = list;
                 rule.clientcount = clients.count;

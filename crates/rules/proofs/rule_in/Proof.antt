@@ -61,7 +61,7 @@ rule-in-spec =
     (λ c. turn (c .before .before) (withRuleChild-long _ _ _ _ (c .before .match2 .keys3) (c .if1 .left)))
     (λ c κs. search needs)
     (λ c. less (c .before .before .before))
-    (λ c. turn (c .before .before .before) (withRuleChild-clients _ _ _ _ (c .before .before .match2 .keys4) (c .before .clients-in .ensures)))
+    (λ c. turn (c .before .before .before) (withRuleChild-clients _ _ _ _ (c .before .before .match2 .keys4) (c .before .read-clients .ensures)))
     (λ c κs. search needs)
     (λ c. less (c .before .before))
     (λ c. turn (c .before .before) (withRuleChild-tunnel _ _ _ _ (c .before .match2 .keys5) (c .number6 .ensures)))

@@ -1,4 +1,4 @@
--- `clients::clients_in` gives clientsIn.
+-- `clients::read_clients` gives clientsIn.
 -- The loop keeps that the fold from `at` on, over what it has, is the fold from the start. Every turn is one more step of that fold; what is left falls.
 -- Trusts: nothing.
 use borrow.Author.Needs.{needs}
@@ -12,8 +12,8 @@ use Rattle.clients.specs.Clients.{withClientChild, clientsIn}
 use Rattle.children.proofs.Laws.{no-value, item-fits, item-less}
 use Rattle.children.proofs.LawsFolds.{fold-stop, fold-item}
 use Rattle.clients.proofs.Laws.{no-client-child, with-client-child, full-client-child}
-use Rattle.clients.proofs.clients_in.Statement.{statement}
-use Rattle.clients.proofs.clients_in.Tie as tie
+use Rattle.clients.proofs.read_clients.Statement.{statement}
+use Rattle.clients.proofs.read_clients.Tie as tie
 
 abbrev Inv-loop : tie.InvT-loop
 Inv-loop message from end clients₀ at₀ clients at = rowFold (withClientChild message) (rowIn message at end) clients ≡ clientsIn message from end
@@ -25,8 +25,8 @@ loop-holds : tie.Need-loop-holds Inv-loop μ-loop
 unfolding clientsIn
 loop-holds c = simp (c .no-clients .ensures)
 
-pub clients-in-spec : {M : Type 1} → statement M
-clients-in-spec =
+pub read-clients-spec : {M : Type 1} → statement M
+read-clients-spec =
     tie.close
     (tie.spec
     Inv-loop
