@@ -25,6 +25,8 @@ use Rattle.rows.proofs.test_element.Reads as test_element
 use Rattle.contents.proofs.rule_at.Reads as rule_at
 use Rattle.contents.proofs.classifier_at.Reads as classifier_at
 use Rattle.contents.proofs.configuration_at.Reads as configuration_at
+use Rattle.named.proofs.is_listed.Reads as is_listed
+use Rattle.named.proofs.lone_number.Reads as lone_number
 use Rattle.matching.proofs.wrong_length.Reads as wrong_length
 use Rattle.matching.proofs.names_number.Reads as names_number
 use Rattle.matching.proofs.read_packet.Reads as read_packet
@@ -98,6 +100,14 @@ classifier_at-one κs = only (parts.classifier_at-gives κs)
 
 pub configuration_at-one : (κs : Lfts 1) → One answer (configuration_at.Post κs)
 configuration_at-one κs = only (parts.configuration_at-gives κs)
+
+-- ---- named
+
+pub is_listed-one : (κs : Lfts 1) → One answer (is_listed.Post κs)
+is_listed-one κs = only (parts.is_listed-gives κs)
+
+pub lone_number-one : (κs : Lfts 1) → One answer (lone_number.Post κs)
+lone_number-one κs = only (parts.lone_number-gives κs)
 
 -- ---- matching
 

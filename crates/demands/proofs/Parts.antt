@@ -1,4 +1,4 @@
--- Parts: what the public functions of the lower crates give (wire, table, elements, rows, contents, matching, listing, bodies): each its definition, for every input.
+-- Parts: what the public functions of the lower crates give (wire, table, elements, rows, contents, named, matching, listing, bodies): each its definition, for every input.
 --
 -- It says nothing of what the definitions mean; docs/MAP.md says where they stand. `met` of each function, in its own crate, says that the
 -- compiled function meets the contract cited here.
@@ -36,6 +36,9 @@ use Rattle.contents.specs.Configurations.{configurationAt}
 use Rattle.contents.proofs.rule_at.Reads as rule_at
 use Rattle.contents.proofs.classifier_at.Reads as classifier_at
 use Rattle.contents.proofs.configuration_at.Reads as configuration_at
+use Rattle.named.specs.Named.{isAmong, loneNumber}
+use Rattle.named.proofs.is_listed.Reads as is_listed
+use Rattle.named.proofs.lone_number.Reads as lone_number
 use Rattle.matching.specs.Match.{wrongLength, namesNumber}
 use Rattle.matching.specs.Entry.{packetOf, entryOf, fitsPacket}
 use Rattle.matching.proofs.wrong_length.Reads as wrong_length
@@ -114,6 +117,14 @@ classifier_at-gives κs a x s h = h
 
 pub configuration_at-gives : (κs : Lfts 1) → Gives answer (configuration_at.Post κs) (λ a. configurationAt (now (a .0)) (a .1 .0))
 configuration_at-gives κs a x s h = h
+
+-- ---- named
+
+pub is_listed-gives : (κs : Lfts 1) → Gives answer (is_listed.Post κs) (λ a. isAmong (a .1 .1 .0) (limitedTo 32 (a .1 .0)) (now (a .0)))
+is_listed-gives κs a x s h = h
+
+pub lone_number-gives : (κs : Lfts 1) → Gives answer (lone_number.Post κs) (λ a. loneNumber (now (a .0)) (a .1 .0))
+lone_number-gives κs a x s h = h
 
 -- ---- matching
 

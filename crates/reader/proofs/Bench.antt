@@ -23,13 +23,14 @@ use Rattle.contents.specs.Rows.{Row, done, bad, item, rowFrom, rowIn, rowInside
 use Rattle.contents.specs.Rules.{withClient, clientAt, withClientChild, clientsIn, withUcids, withNamed, withRuleChild, ruleAt}
 use Rattle.contents.specs.Classifiers.{withPartChild, withPart, withClassifierChild, classifierAt}
 use Rattle.contents.specs.Configurations.{emptyConfiguration, withTimers, withChannel, withConfigurationChild, configurationAt}
-use Rattle.reader.specs.Take.{withRule, withClassifier, withElement, isTaken, unanswered, namedPlace}
+use Rattle.named.specs.Named.{unanswered, loneNumber}
+use Rattle.named.specs.declared.Found.the-variants.{Nothing}
+use Rattle.reader.specs.Take.{withRule, withClassifier, withElement, isTaken}
 use Rattle.reader.specs.Read.{refusal, readRow, readTable}
 use Rattle.rows.specs.declared.Tally.{Tally}
 use Rattle.rows.specs.declared.Tested.{Tested}
 use Rattle.reader.specs.declared.Reading.{Reading}
 use Rattle.reader.specs.declared.Verdict.the-variants.{Accepted}
-use Rattle.reader.specs.declared.Lone.the-variants.{Answered}
 use Rattle.reader.proofs.LawsRead.{isTaken-rule, isTaken-other, withElement-rule, withElement-configuration, withElement-other}
 
 -- message M of the listing
@@ -220,15 +221,16 @@ M-free-2 = sym (isTaken-rule M 22 tableOne refl (sym M-rule-2) refl)
 free-51 : (msg : List ℕ) (at : ℕ) (t : Table) → getD msg at 0 ≡ 51 → isTaken msg at t ≡ false
 free-51 msg at t e = isTaken-other msg at t (λ z. omega (arith, e)) (λ z. omega (arith, e))
 
-answered : (t : Table) → t .rulecount ≡ 0 → unanswered t ≡ Answered
+answered : (t : Table) → t .rulecount ≡ 0 → unanswered t ≡ Nothing
 unfolding unanswered rulesOf
 answered t e = rw e
 
-M-answered : unanswered tableM ≡ Answered
+M-answered : unanswered tableM ≡ Nothing
 unfolding unanswered rulesOf classifiersOf numbersOf
 M-answered = refl
 
-ends : (given : Table) (msg : List ℕ) (tally : Tally) (t : Table) → unanswered t ≡ Answered → readRow given msg done tally t ≡ accepted t
+ends : (given : Table) (msg : List ℕ) (tally : Tally) (t : Table) → unanswered t ≡ Nothing → readRow given msg done tally t ≡ accepted t
+unfolding loneNumber
 ends given msg tally t e = rw e
 
 next : {x y : Reading} {xs ys : List Reading} → x ≡ y → xs ≡ ys → x ∷ xs ≡ y ∷ ys

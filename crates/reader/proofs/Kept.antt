@@ -5,21 +5,22 @@
 --   kept-rulefull, kept-classifierfull   it holds after an element that has no place
 --   pushed-rule, pushed-classifier   what a store at the next place is
 -- Trusts: nothing.
-use Prim.Native.Nat.{ℕ, zero, suc, _+_, _≤_, _<_}
+use Prim.Native.Nat.{ℕ, _+_, _≤_, _<_}
 use mathlib.Core.Path.{_≡_, refl, sym, ap, _∙_}
 use mathlib.Core.Bool.{cond}
 use mathlib.Core.List.{List, map}
 use native.Mathlib.Omega.{arith}
 use borrow.Author.Tests.{lt-ltb, le-ltb}
-use lib.ListN.{length, take, getD, set, replicate, length-set}
+use lib.ListN.{length, take, set, replicate, length-set}
 use lib.Seq.{set-out}
-use Rattle.table.specs.Table.{limitedTo, rulesOf, classifiersOf, emptyRule, emptyTable}
+use Rattle.table.specs.Table.{limitedTo, rulesOf, classifiersOf, emptyTable}
 use Rattle.table.specs.declared.Rule.{Rule}
 use Rattle.table.specs.declared.Classifier.{Classifier}
 use Rattle.table.specs.declared.Table.{Table}
 use Rattle.contents.specs.declared.Configuration.{Configuration}
-use Rattle.reader.specs.Take.{withRule, withClassifier, withConfiguration, ruleNumbers, classifierNumbers, RulesSized}
-use Rattle.reader.proofs.Lists.{front-more, getD-set}
+use Rattle.named.specs.Named.{classifierNumbers}
+use Rattle.reader.specs.Take.{withRule, withClassifier, withConfiguration, ruleNumbers}
+use Rattle.reader.proofs.Lists.{front-more}
 
 pub record Kept (ruleids classifierids : List ℕ) (t : Table) : Type 0 where
   pub rules : t .rulecount ≤ 32
@@ -28,7 +29,6 @@ pub record Kept (ruleids classifierids : List ℕ) (t : Table) : Type 0 where
   pub classifierroom : length (t .classifiers) ≡ 32
   pub ruleidroom : length ruleids ≡ 32
   pub classifieridroom : length classifierids ≡ 32
-  pub sized : RulesSized t
   pub ruled : take (t .rulecount) ruleids ≡ ruleNumbers t
   pub classified : take (t .classifiercount) classifierids ≡ classifierNumbers t
 
@@ -63,23 +63,14 @@ module _ (q : Classifier) (t : Table) where
   withClassifier-full h = simp (le-ltb (t .classifiercount) 32 h)
 
 pub kept-empty : Kept (replicate 32 0) (replicate 32 0) emptyTable
-unfolding rulesOf classifiersOf RulesSized
+unfolding rulesOf classifiersOf
 kept-empty =
-    record { rules = omega arith; classifiers = omega arith; ruleroom = refl; classifierroom = refl; ruleidroom = refl; classifieridroom = refl; sized = λ i. all i; ruled = refl; classified = refl }
-  where
-    -- every place of the empty table, and what lies past it
-    within : (n i : ℕ) → length (getD (replicate n emptyRule) i emptyRule .numbers) ≡ 8
-    within zero i = refl
-    within (suc n) zero = refl
-    within (suc n) (suc i) = within n i
-
-    all : (i : ℕ) → length (getD (replicate 32 emptyRule) i emptyRule .numbers) ≡ 8
-    all i = within 32 i
+    record { rules = omega arith; classifiers = omega arith; ruleroom = refl; classifierroom = refl; ruleidroom = refl; classifieridroom = refl; ruled = refl; classified = refl }
 
 module _ {a b : List ℕ} {t : Table} (k : Kept a b t) where
-  pub kept-rule : (q : Rule) → t .rulecount < 32 → length (q .numbers) ≡ 8 → {ids : List ℕ} → ids ≡ set a (t .rulecount) (q .number) → Kept ids b (pushedRule q t)
-  unfolding rulesOf classifiersOf RulesSized
-  kept-rule q h s e =
+  pub kept-rule : (q : Rule) → t .rulecount < 32 → {ids : List ℕ} → ids ≡ set a (t .rulecount) (q .number) → Kept ids b (pushedRule q t)
+  unfolding rulesOf classifiersOf
+  kept-rule q h e =
       rw e
       record {
         rules = omega arith;
@@ -88,7 +79,6 @@ module _ {a b : List ℕ} {t : Table} (k : Kept a b t) where
         classifierroom = k .classifierroom;
         ruleidroom = simp length-set (k .ruleidroom);
         classifieridroom = k .classifieridroom;
-        sized = λ i. getD-set (λ (x : Rule). length (x .numbers) ≡ 8) (t .rules) (t .rulecount) i q emptyRule s (k .sized i);
         ruled =
             front-more (λ (x : Rule). x .number) (t .rules) a (t .rulecount) q (omega arith) (omega arith)
             (k .ruled ∙ simp (limited-same 32 (t .rulecount) (k .rules)))
@@ -97,7 +87,7 @@ module _ {a b : List ℕ} {t : Table} (k : Kept a b t) where
       }
 
   pub kept-classifier : (q : Classifier) → t .classifiercount < 32 → {ids : List ℕ} → ids ≡ set b (t .classifiercount) (q .number) → Kept a ids (pushedClassifier q t)
-  unfolding rulesOf classifiersOf RulesSized
+  unfolding rulesOf classifiersOf
   kept-classifier q h e =
       rw e
       record {
@@ -107,7 +97,6 @@ module _ {a b : List ℕ} {t : Table} (k : Kept a b t) where
         classifierroom = simp length-set (k .classifierroom);
         ruleidroom = k .ruleidroom;
         classifieridroom = simp length-set (k .classifieridroom);
-        sized = k .sized;
         ruled = k .ruled;
         classified =
             front-more (λ (x : Classifier). x .number) (t .classifiers) b (t .classifiercount) q (omega arith) (omega arith)
@@ -122,6 +111,6 @@ module _ {a b : List ℕ} {t : Table} (k : Kept a b t) where
   kept-classifierfull n h e = rw (e, set-out b (t .classifiercount) n (omega (arith, k .classifieridroom))) k
 
   pub kept-configuration : (q : Configuration) → Kept a b (withConfiguration q t)
-  unfolding rulesOf classifiersOf RulesSized
+  unfolding rulesOf classifiersOf
   kept-configuration q =
-      record { rules = k .rules; classifiers = k .classifiers; ruleroom = k .ruleroom; classifierroom = k .classifierroom; ruleidroom = k .ruleidroom; classifieridroom = k .classifieridroom; sized = k .sized; ruled = k .ruled; classified = k .classified }
+      record { rules = k .rules; classifiers = k .classifiers; ruleroom = k .ruleroom; classifierroom = k .classifierroom; ruleidroom = k .ruleidroom; classifieridroom = k .classifieridroom; ruled = k .ruled; classified = k .classified }

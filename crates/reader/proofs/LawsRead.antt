@@ -29,7 +29,8 @@ use Rattle.contents.proofs.Laws.{rowIn-rule}
 use Rattle.rows.specs.Rows.{testedAt}
 use Rattle.rows.specs.declared.Tally.{Tally}
 use Rattle.rows.specs.declared.Tested.{Tested}
-use Rattle.reader.specs.Take.{withRule, withClassifier, withConfiguration, withElement, isListed, ruleNumbers, classifierNumbers, isTaken, unanswered}
+use Rattle.named.specs.Named.{isListed, classifierNumbers, loneNumber}
+use Rattle.reader.specs.Take.{withRule, withClassifier, withConfiguration, withElement, ruleNumbers, isTaken}
 use Rattle.reader.specs.Read.{refusal, readLone, readRow}
 
 module _ (msg : List ℕ) (at : ℕ) (tally : Tally) {s : Tested} (e : s ≡ testedAt msg at tally) where
@@ -83,7 +84,7 @@ module _ (msg : List ℕ) (at : ℕ) (tally : Tally) {s : Tested} (e : s ≡ tes
             on (Value len) b = rw (rowIn-rule msg at (length msg), b, ← e, eq-eqb (s .bad) 0 fine, free, on-item b, w)
 
 -- the end of the message: 15 is left
-pub read-ends : (msg : List ℕ) (at : ℕ) (tally : Tally) (given t : Table) → length msg ≤ at → readLone given msg t (unanswered t) ≡ readRow given msg (rowIn msg at (length msg)) tally t
+pub read-ends : (msg : List ℕ) (at : ℕ) (tally : Tally) (given t : Table) → length msg ≤ at → readLone given t (loneNumber msg t) ≡ readRow given msg (rowIn msg at (length msg)) tally t
 read-ends msg at tally given t past = simp (rowIn-rule msg at (length msg), headAt-end msg at (length msg) (omega arith))
 
 module _ (msg : List ℕ) (at : ℕ) (t : Table) where

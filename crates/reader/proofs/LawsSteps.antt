@@ -2,7 +2,7 @@
 --
 --   takes-refused, takes-taken   6 to 13; 14             takes-whole   the end of the message
 --   rests-empty, rests-on        the rest of a message is the whole of it: at the start, and after an element
---   last-answered, last-number   what test 15 answers
+--   last-at                      test 15 answers a place
 --   reads-refused, reads-last    a refusal of 6 to 14; what 15 leaves
 --   table-accepted, table-refused   the reading with the given table
 -- Trusts: nothing.
@@ -20,17 +20,17 @@ use Rattle.rows.specs.Tests.{emptyTally}
 use Rattle.rows.specs.Rows.{testedAt}
 use Rattle.rows.specs.declared.Tally.{Tally}
 use Rattle.rows.specs.declared.Tested.{Tested}
-use Rattle.reader.specs.Take.{withElement, isTaken, unanswered, namedPlace}
+use Rattle.named.specs.Named.{loneNumber}
+use Rattle.named.specs.declared.Lone.{Lone}
+use Rattle.named.specs.declared.Lone.the-variants.{Answered, At}
+use Rattle.reader.specs.Take.{withElement, isTaken}
 use Rattle.reader.specs.Read.{refusal, readLone, readRow, readTable}
-use Rattle.reader.specs.Steps.{handed, lastVerdict, readAll, Carries, TakesUp, ReadsAs}
-use Rattle.reader.specs.declared.Lone.{Lone}
-use Rattle.reader.specs.declared.Lone.the-variants.{Answered, Number}
+use Rattle.reader.specs.Steps.{handed, lastVerdict, readAll, TakesUp, ReadsAs}
 use Rattle.reader.specs.declared.Reading.{Reading}
 use Rattle.reader.specs.declared.Taken.{Taken}
 use Rattle.reader.specs.declared.Verdict.{Verdict}
 use Rattle.reader.specs.declared.Verdict.the-variants.{Accepted, Refused}
 use Rattle.reader.proofs.LawsRead.{read-refused, read-taken, read-goes, read-ends}
-use Rattle.reader.proofs.Kept.{Kept}
 
 -- reading the rest of the message, with the tally and the table so far, is reading the whole of it
 unfoldable pub Rests : List ℕ → ℕ → Tally → Table → Type 0
@@ -41,49 +41,40 @@ unfolding Rests readAll
 rests-empty msg e f given = simp (e, f)
 
 module _ (msg : List ℕ) (at : ℕ) (tally : Tally) (t : Table) (so : Rests msg at tally t) where
-  pub takes-whole : {ids carried : List ℕ} → Kept ids carried t → length msg ≤ at → TakesUp msg carried (record { bad = 0; off = 0; table = t })
+  pub takes-whole : length msg ≤ at → TakesUp msg (record { bad = 0; off = 0; table = t })
   unfolding Rests
-  takes-whole k past =
-      record {
-        refused = λ z. absurd (z refl);
-        whole = λ z given. read-ends msg at tally given t past ∙ so given;
-        carries = λ z. record { count = k .classifiers; room = k .classifieridroom; sized = k .sized; numbers = k .classified };
-      }
+  takes-whole past =
+      record { refused = λ z. absurd (z refl); whole = λ z given. read-ends msg at tally given t past ∙ so given }
 
   module _ {s : Tested} (e : s ≡ testedAt msg at tally) (inside : at < length msg) where
-    pub takes-refused : {carried : List ℕ} → (s .bad ≡ 0 → ⊥) → TakesUp msg carried (record { bad = s .bad; off = s .off; table = t })
+    pub takes-refused : (s .bad ≡ 0 → ⊥) → TakesUp msg (record { bad = s .bad; off = s .off; table = t })
     unfolding Rests
     takes-refused fault =
-        record { refused = λ z given. read-refused msg at tally e inside given t fault ∙ so given; whole = λ z. absurd (fault z); carries = λ z. absurd (fault z) }
+        record { refused = λ z given. read-refused msg at tally e inside given t fault ∙ so given; whole = λ z. absurd (fault z) }
 
     module _ (fine : s .bad ≡ 0) where
-      pub takes-taken : {carried : List ℕ} → isTaken msg at t ≡ true → TakesUp msg carried (record { bad = 14; off = at; table = t })
+      pub takes-taken : isTaken msg at t ≡ true → TakesUp msg (record { bad = 14; off = at; table = t })
       unfolding Rests
       takes-taken taken =
-          record { refused = λ z given. read-taken msg at tally e inside given t fine taken ∙ so given; whole = λ z. absurd (omega arith); carries = λ z. absurd (omega arith) }
+          record { refused = λ z given. read-taken msg at tally e inside given t fine taken ∙ so given; whole = λ z. absurd (omega arith) }
 
       pub rests-on : {u : Table} → isTaken msg at t ≡ false → u ≡ withElement msg at t → Rests msg (s .next) (s .tally) u
       unfolding Rests
       rests-on free w given = read-goes msg at tally e inside given t fine free w ∙ so given
 
--- the two answers of test 15
-module _ (msg : List ℕ) {lone other : Lone} (e : lone ≡ other) where
-  pub last-answered : lone ≡ Answered → Accepted ≡ lastVerdict msg other
-  last-answered a = simp (← e, a)
+pub last-at : {l : Lone} {off : ℕ} → l ≡ At off → Refused 15 off ≡ lastVerdict l
+last-at e = simp e
 
-  pub last-number : {i j : ℕ} → lone ≡ Number i j → {place : ℕ} → place ≡ namedPlace msg i j → Refused 15 place ≡ lastVerdict msg other
-  last-number a p = simp (← e, a, p)
+module _ (msg : List ℕ) {s : Taken} (k : TakesUp msg s) where
+  pub reads-refused : (s .bad ≡ 0 → ⊥) → ReadsAs msg (record { verdict = Refused (s .bad) (s .off); table = s .table })
+  reads-refused fault = record { reads = λ given. k .refused fault given }
 
-module _ (msg : List ℕ) where
-  pub reads-refused : {carried : List ℕ} {s : Taken} → TakesUp msg carried s → (s .bad ≡ 0 → ⊥) → ReadsAs msg (record { verdict = Refused (s .bad) (s .off); table = s .table })
-  reads-refused k fault = record { reads = λ given. k .refused fault given }
-
-  pub reads-last : {carried : List ℕ} {s : Taken} → TakesUp msg carried s → s .bad ≡ 0 → {v : Verdict} → v ≡ lastVerdict msg (unanswered (s .table)) → ReadsAs msg (record { verdict = v; table = s .table })
-  reads-last {carried} {s} k fine e = record { reads = λ given. rw e (on given (unanswered (s .table))) ∙ k .whole fine given }
+  pub reads-last : s .bad ≡ 0 → {l : Lone} → l ≡ loneNumber msg (s .table) → {v : Verdict} → v ≡ lastVerdict l → ReadsAs msg (record { verdict = v; table = s .table })
+  reads-last fine f e = record { reads = λ given. rw (e, f) (on given (loneNumber msg (s .table))) ∙ k .whole fine given }
     where
-      on : (given : Table) (l : Lone) → handed given (lastVerdict msg l) (s .table) ≡ readLone given msg (s .table) l
+      on : (given : Table) (l : Lone) → handed given (lastVerdict l) (s .table) ≡ readLone given (s .table) l
       on given Answered = refl
-      on given (Number i j) = refl
+      on given (At off) = refl
 
 -- a reading handed back to the given table
 module _ (given : Table) (msg : List ℕ) {r : Reading} (k : ReadsAs msg r) (h : length msg ≤ 23952) where

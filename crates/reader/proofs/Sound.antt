@@ -3,7 +3,7 @@
 --   isDistinct l                  no number stands twice in the list
 --   Sound t                       the room of t and the numbers in it
 --   sound-empty, sound-element    it holds of the empty table, and after an element whose number is not taken
---   listed-append, distinct-more  a number more at the end of a list
+--   distinct-more                 a number more at the end of a list
 -- Trusts: nothing.
 use Prim.Native.Nat.{ℕ, _+_, _≤_, _<_}
 use mathlib.Core.Path.{_≡_, refl, sym, ap, _∙_}
@@ -24,9 +24,10 @@ use Rattle.contents.specs.Rules.{ruleAt}
 use Rattle.contents.specs.Classifiers.{classifierAt}
 use Rattle.contents.specs.Configurations.{configurationAt}
 use Rattle.contents.proofs.LawsConfigurations.{channels-room}
-use Rattle.reader.specs.Take.{withRule, withClassifier, withConfiguration, withElement, isListed, ruleNumbers, classifierNumbers, isTaken}
-use Rattle.reader.proofs.Lists.{map-append}
-use Rattle.reader.proofs.LawsLone.{listed-append}
+use Rattle.named.specs.Named.{isListed, classifierNumbers}
+use Rattle.named.proofs.Lists.{map-append}
+use Rattle.named.proofs.LawsListed.{listed-append}
+use Rattle.reader.specs.Take.{withRule, withClassifier, withConfiguration, withElement, ruleNumbers, isTaken}
 use Rattle.reader.proofs.Kept.{limited-same, pushedRule, pushedClassifier}
 
 abbrev pub isDistinct : List ℕ → Bool
