@@ -1,22 +1,25 @@
 -- Laws of what the private functions owe each other (specs/Steps.antt), over plain values.
 --
---   takes-refused, takes-taken   6 to 13; 14             takes-whole   the end of the message
---   rests-empty, rests-on        the rest of a message is the whole of it: at the start, and after an element
+--   Taking msg ids carried t so  what the loop over the elements keeps
+--   taking-empty                 before the first element                 takes-all    after the last, or a refusal
+--   taking-taken, taking-on, taking-other   after an element that is refused with 14, is taken up, is neither
+--   left-less, none-less         what is left of the message falls        kind-known   a type that is to be taken up
+--   goes-refused                 nothing is read after a refusal
 --   last-at                      test 15 answers a place
 --   reads-refused, reads-last    a refusal of 6 to 14; what 15 leaves
 --   table-accepted, table-refused   the reading with the given table
 -- Trusts: nothing.
-use Prim.Native.Nat.{ℕ, _≤_, _<_}
+use Prim.Native.Nat.{ℕ, _-_, _≤_, _<_}
 use mathlib.Core.Path.{_≡_, refl, sym, ap, _∙_}
-use mathlib.Core.Bool.{true, false}
+use mathlib.Core.Bool.{Bool, true, false, cond}
 use mathlib.Core.List.{List}
 use native.Mathlib.Omega.{arith}
-use borrow.Author.Tests.{le-ltb}
-use lib.ListN.{length}
+use borrow.Author.Tests.{eq-eqb, eqb-true, eqb-false, le-ltb}
+use lib.ListN.{length, replicate}
+use lib.Dec.{eqb}
 use Rattle.table.specs.Table.{emptyTable}
 use Rattle.table.specs.declared.Table.{Table}
-use Rattle.contents.specs.Rows.{rowIn}
-use Rattle.rows.specs.Tests.{emptyTally}
+use Rattle.contents.specs.Rows.{rowIn, typeAt}
 use Rattle.rows.specs.Rows.{testedAt}
 use Rattle.rows.specs.declared.Tally.{Tally}
 use Rattle.rows.specs.declared.Tested.{Tested}
@@ -25,42 +28,104 @@ use Rattle.named.specs.declared.Lone.{Lone}
 use Rattle.named.specs.declared.Lone.the-variants.{Answered, At}
 use Rattle.reader.specs.Take.{withElement, isTaken}
 use Rattle.reader.specs.Read.{refusal, readLone, readRow, readTable}
-use Rattle.reader.specs.Steps.{handed, lastVerdict, readAll, TakesUp, ReadsAs}
+use Rattle.reader.specs.Steps.{handed, noneTested, kindOf, GoesOn, lastVerdict, readAll, TakesUp, ReadsAs}
 use Rattle.reader.specs.declared.Reading.{Reading}
 use Rattle.reader.specs.declared.Taken.{Taken}
 use Rattle.reader.specs.declared.Verdict.{Verdict}
 use Rattle.reader.specs.declared.Verdict.the-variants.{Accepted, Refused}
-use Rattle.reader.proofs.LawsRead.{read-refused, read-taken, read-goes, read-ends}
+use Rattle.reader.proofs.LawsRead.{next-less, read-refused, read-taken, read-goes, read-ends, isTaken-other, withElement-other}
+use Rattle.reader.proofs.Kept.{Kept, kept-empty}
 
 -- reading the rest of the message, with the tally and the table so far, is reading the whole of it
 unfoldable pub Rests : List ℕ → ℕ → Tally → Table → Type 0
 Rests msg at tally t = (given : Table) → readRow given msg (rowIn msg at (length msg)) tally t ≡ readAll given msg
 
-pub rests-empty : (msg : List ℕ) {t : Table} {tally : Tally} → t ≡ emptyTable → tally ≡ emptyTally → Rests msg 0 tally t
+-- what the loop keeps: while nothing is refused, the lists and that the rest of the message is the whole of it; then, that the refusal is the message's
+pub record Taking (msg ruleids carried : List ℕ) (t : Table) (so : Tested) : Type 0 where
+  pub kept : so .bad ≡ 0 → Kept ruleids carried t
+  pub rests : so .bad ≡ 0 → Rests msg (so .next) (so .tally) t
+  pub refused : (so .bad ≡ 0 → ⊥) → (given : Table) → refusal (so .bad) (so .off) given ≡ readAll given msg
+
+-- what is left of the message falls
+abbrev pub left : List ℕ → Tested → ℕ
+left msg so = cond (eqb (so .bad) 0) (length msg - so .next) 0
+
+pub taking-empty : (msg : List ℕ) {t : Table} {so : Tested} → t ≡ emptyTable → so ≡ noneTested → Taking msg (replicate 32 0) (replicate 32 0) t so
 unfolding Rests readAll
-rests-empty msg e f given = simp (e, f)
+taking-empty msg e f = rw (e, f) (record { kept = λ z. kept-empty; rests = λ z given. refl; refused = λ z. absurd (z refl) })
 
-module _ (msg : List ℕ) (at : ℕ) (tally : Tally) (t : Table) (so : Rests msg at tally t) where
-  pub takes-whole : length msg ≤ at → TakesUp msg (record { bad = 0; off = 0; table = t })
+module _ (msg : List ℕ) {ids carried : List ℕ} {t : Table} {so : Tested} (k : Taking msg ids carried t so) where
+  pub takes-all : {r : Bool} → GoesOn so (length msg) r → r ≡ false → TakesUp msg (record { bad = so .bad; off = so .off; table = t })
   unfolding Rests
-  takes-whole past =
-      record { refused = λ z. absurd (z refl); whole = λ z given. read-ends msg at tally given t past ∙ so given }
+  takes-all g y =
+      record { refused = k .refused; whole = λ z given. read-ends msg (so .next) (so .tally) given t (g .stops y z) ∙ k .rests z given }
 
-  module _ {s : Tested} (e : s ≡ testedAt msg at tally) (inside : at < length msg) where
-    pub takes-refused : (s .bad ≡ 0 → ⊥) → TakesUp msg (record { bad = s .bad; off = s .off; table = t })
+  -- another element is tested
+  module _ {r : Bool} (g : GoesOn so (length msg) r) (y : r ≡ true) {s : Tested} (e : s ≡ testedAt msg (so .next) (so .tally)) where
+    pub left-less : left msg s < left msg so
+    left-less = rw (eq-eqb (so .bad) 0 (g .on y .0)) (on (eqb (s .bad) 0) refl)
+      where
+        on : (b : Bool) → eqb (s .bad) 0 ≡ b → cond b (length msg - s .next) 0 < length msg - so .next
+        on true z = next-less msg (so .next) (so .tally) e (g .on y .1) (eqb-true (s .bad) 0 z)
+        on false z = let inside = g .on y .1 in omega arith
+
+    pub none-less : 0 < left msg so
+    none-less = rw (eq-eqb (so .bad) 0 (g .on y .0)) (let inside = g .on y .1 in omega arith)
+
+    -- a number that is taken, 14
+    pub taking-taken : {a b : List ℕ} → s .bad ≡ 0 → isTaken msg (so .next) t ≡ true → Taking msg a b t (record { bad = 14; off = so .next; next = s .next; tally = s .tally })
     unfolding Rests
-    takes-refused fault =
-        record { refused = λ z given. read-refused msg at tally e inside given t fault ∙ so given; whole = λ z. absurd (fault z) }
+    taking-taken fine taken =
+        record {
+          kept = λ z. absurd (omega arith);
+          rests = λ z. absurd (omega arith);
+          refused = λ z given. read-taken msg (so .next) (so .tally) e (g .on y .1) given t fine taken ∙ k .rests (g .on y .0) given;
+        }
 
-    module _ (fine : s .bad ≡ 0) where
-      pub takes-taken : isTaken msg at t ≡ true → TakesUp msg (record { bad = 14; off = at; table = t })
-      unfolding Rests
-      takes-taken taken =
-          record { refused = λ z given. read-taken msg at tally e inside given t fine taken ∙ so given; whole = λ z. absurd (omega arith) }
+    -- the element is taken up
+    pub taking-on : {a b : List ℕ} {u : Table} → s .bad ≡ 0 → isTaken msg (so .next) t ≡ false → u ≡ withElement msg (so .next) t → Kept a b u → Taking msg a b u s
+    unfolding Rests
+    taking-on fine free w keeps =
+        record {
+          kept = λ z. keeps;
+          rests = λ z given. read-goes msg (so .next) (so .tally) e (g .on y .1) given t fine free w ∙ k .rests (g .on y .0) given;
+          refused = λ z. absurd (z fine);
+        }
 
-      pub rests-on : {u : Table} → isTaken msg at t ≡ false → u ≡ withElement msg at t → Rests msg (s .next) (s .tally) u
-      unfolding Rests
-      rests-on free w given = read-goes msg at tally e inside given t fine free w ∙ so given
+    -- a refusal of 6 to 13, or an element of another type
+    pub taking-other : {kind : ℕ} → kind ≡ kindOf msg (so .next) (s .bad) → (kind ≡ 50 → ⊥) → (kind ≡ 23 → ⊥) → (kind ≡ 51 → ⊥) → Taking msg ids carried t s
+    unfolding Rests kindOf
+    taking-other {kind} f h i j = on (eqb (s .bad) 0) refl
+      where
+        same : s .bad ≡ 0 → kind ≡ typeAt msg (so .next)
+        same fine = f ∙ simp (eq-eqb (s .bad) 0 fine)
+
+        on : (b : Bool) → eqb (s .bad) 0 ≡ b → Taking msg ids carried t s
+        on true z =
+            let fine = eqb-true (s .bad) 0 z in
+            taking-on fine
+            (isTaken-other msg (so .next) t (λ x. h (same fine ∙ x)) (λ x. i (same fine ∙ x)))
+            (withElement-other msg (so .next) t (λ x. h (same fine ∙ x)) (λ x. i (same fine ∙ x)) (λ x. j (same fine ∙ x)))
+            (k .kept (g .on y .0))
+        on false z =
+            let fault = eqb-false (s .bad) 0 z in
+            record {
+              kept = λ x. absurd (fault x);
+              rests = λ x. absurd (fault x);
+              refused = λ x given. read-refused msg (so .next) (so .tally) e (g .on y .1) given t fault ∙ k .rests (g .on y .0) given;
+            }
+
+pub goes-refused : {so : Tested} {end : ℕ} → (so .bad ≡ 0 → ⊥) → GoesOn so end false
+goes-refused fault = record { on = λ z. absurd (let x : _≡_ {A = ℕ} 0 1 = cc in omega arith); stops = λ z fine. absurd (fault fine) }
+
+-- the type of an element that is to be taken up: it was not refused
+pub kind-known : (msg : List ℕ) (at n : ℕ) {kind : ℕ} → kind ≡ kindOf msg at n → (kind ≡ 0 → ⊥) → (n ≡ 0) × (typeAt msg at ≡ kind)
+unfolding kindOf
+kind-known msg at n {kind} e known = on (eqb n 0) refl e
+  where
+    on : (b : Bool) → eqb n 0 ≡ b → kind ≡ cond b (typeAt msg at) 0 → (n ≡ 0) × (typeAt msg at ≡ kind)
+    on true z f = (eqb-true n 0 z, sym f)
+    on false z f = absurd (known f)
 
 pub last-at : {l : Lone} {off : ℕ} → l ≡ At off → Refused 15 off ≡ lastVerdict l
 last-at e = simp e

@@ -1,19 +1,25 @@
 -- Steps: what the private functions of a reading owe each other. No promise of a public function cites these.
 --
 --   handed given v t       the reading with this verdict: t where it accepts, else the given table
+--   noneTested             what the elements come to before the first
+--   kindOf msg at n        the type at `at`, if the element there is refused with no number
+--   GoesOn so end r        r says whether another element is to be read: nothing so far is refused, and the end is not reached
 --   lastVerdict lone       15, or the message is accepted
 --   TakesUp msg s          the elements come to s: a refusal of the message, or a table of which only 15 is to be tested
 --   ReadsAs msg r          with any given table, the reading of the message is r, handed back
 --
 -- Trusts: nothing.
-use Prim.Native.Nat.{ℕ}
+use Prim.Native.Nat.{ℕ, _≤_, _<_}
 use mathlib.Core.Path.{_≡_}
+use mathlib.Core.Bool.{Bool, true, false, cond}
 use mathlib.Core.List.{List}
 use lib.ListN.{length}
+use lib.Dec.{eqb}
 use Rattle.table.specs.Table.{emptyTable}
 use Rattle.table.specs.declared.Table.{Table}
-use Rattle.contents.specs.Rows.{rowIn}
+use Rattle.contents.specs.Rows.{rowIn, typeAt}
 use Rattle.rows.specs.Tests.{emptyTally}
+use Rattle.rows.specs.declared.Tested.{Tested}
 use Rattle.named.specs.Named.{loneNumber}
 use Rattle.named.specs.declared.Lone.{Lone}
 use Rattle.named.specs.declared.Lone.the-variants.{Answered, At}
@@ -30,6 +36,16 @@ handed given (Refused n off) t = refusal n off given
 abbrev pub lastVerdict : Lone → Verdict
 lastVerdict Answered = Accepted
 lastVerdict (At off) = Refused 15 off
+
+abbrev pub noneTested : Tested
+noneTested = record { bad = 0; off = 0; next = 0; tally = emptyTally }
+
+unfoldable pub kindOf : List ℕ → ℕ → ℕ → ℕ
+kindOf msg at n = cond (eqb n 0) (typeAt msg at) 0
+
+pub record GoesOn (so : Tested) (end : ℕ) (r : Bool) : Type 0 where
+  pub on : r ≡ true → (so .bad ≡ 0) × (so .next < end)
+  pub stops : r ≡ false → so .bad ≡ 0 → end ≤ so .next
 
 -- the reading of all elements, with the table that a refusal hands back
 unfoldable pub readAll : Table → List ℕ → Reading

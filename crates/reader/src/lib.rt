@@ -10,10 +10,12 @@ use named::Lone;
 use rows::Tested;
 use table::Table;
 ghost use mathlib.Core.Path.{_≡_};
+ghost use Prim.Native.Nat.{_<_};
 ghost use lib.ListN.{length, set, take};
+ghost use Rattle.rows.specs.Rows.{testedAt};
 ghost use Rattle.named.specs.Named.{isListed};
 ghost use Rattle.reader.specs.Read.{refusal, readTable};
-ghost use Rattle.reader.specs.Steps.{TakesUp, ReadsAs, lastVerdict};
+ghost use Rattle.reader.specs.Steps.{noneTested, kindOf, GoesOn, TakesUp, ReadsAs, lastVerdict};
 
 // The longest message.
 const MESSAGE_BYTES: usize = 23952;
@@ -63,6 +65,48 @@ fn is_taken(list: &mut [u16; 32], count: u8, number: u16) -> bool
     taken
 }
 
+// Before the first element.
+fn none_tested() -> Tested
+    ensures { λ r. ⌜ r ≡ noneTested ⌝ }
+{
+    let tally = rows::empty_tally();
+    Tested {
+        bad: 0,
+        off: 0,
+        next: 0,
+        tally,
+    }
+}
+
+// The element after those that came to `so`, tested 6 to 13.
+fn test_next(message: &[u8], so: Tested) -> Tested
+    ensures { λ r. ⌜ r ≡ testedAt (now (message .entry)) (so .next) (so .tally) ⌝ }
+{
+    let tally = so.tally;
+    rows::test_element(message, so.next, tally)
+}
+
+// Whether there is an element after those that came to `so`, and none of these was refused.
+fn goes_on(so: Tested, end: usize) -> bool
+    ensures { λ r. ⌜ GoesOn so end r ⌝ }
+{
+    if so.bad != 0 {
+        return false;
+    }
+    so.next < end
+}
+
+// The type of the element at `at`, which is to be taken up; 0 if it is refused.
+fn kind_of(message: &[u8], at: usize, bad: u8) -> u8
+    requires { ⌜ at < length (now message) ⌝ }
+    ensures { λ r. ⌜ r ≡ kindOf (now (message .entry)) at bad ⌝ }
+{
+    if bad != 0 {
+        return 0;
+    }
+    message[at]
+}
+
 // The top-level elements in byte order, each tested 6 to 14 and taken up.
 fn take_up(message: &[u8]) -> Taken
     ensures { λ r. ⌜ TakesUp (now (message .entry)) r ⌝ }
@@ -70,37 +114,19 @@ fn take_up(message: &[u8]) -> Taken
     let mut table = table::empty_table();
     let mut ruleids = [0u16; 32];
     let mut carried = [0u16; 32];
-    let tally = rows::empty_tally();
-    let mut tested = Tested {
-        bad: 0,
-        off: 0,
-        next: 0,
-        tally,
-    };
-    while tested.next < message.len() {
+    let mut tested = none_tested();
+    while goes_on(tested, message.len()) {
         let here = tested.next;
-        let before = tested.tally;
-        tested = rows::test_element(message, here, before);
-        if tested.bad != 0 {
-            return Taken {
-                bad: tested.bad,
-                off: tested.off,
-                table,
-            };
-        }
-        let kind = message[here];
+        tested = test_next(message, tested);
+        let kind = kind_of(message, here, tested.bad);
         match kind {
             50 => {
                 let rule = contents::rule_at(message, here);
                 let used = table.rulecount;
                 if is_taken(&mut ruleids, used, rule.number as u16) {
-                    return Taken {
-                        bad: 14,
-                        off: here,
-                        table,
-                    };
-                }
-                if used < 32 {
+                    tested.bad = 14;
+                    tested.off = here;
+                } else if used < 32 {
                     table.rules[used as usize] = rule;
                     table.rulecount = used + 1;
                 }
@@ -109,13 +135,9 @@ fn take_up(message: &[u8]) -> Taken
                 let classifier = contents::classifier_at(message, here);
                 let used = table.classifiercount;
                 if is_taken(&mut carried, used, classifier.number) {
-                    return Taken {
-                        bad: 14,
-                        off: here,
-                        table,
-                    };
-                }
-                if used < 32 {
+                    tested.bad = 14;
+                    tested.off = here;
+                } else if used < 32 {
                     table.classifiers[used as usize] = classifier;
                     table.classifiercount = used + 1;
                 }
@@ -132,8 +154,8 @@ fn take_up(message: &[u8]) -> Taken
         }
     }
     Taken {
-        bad: 0,
-        off: 0,
+        bad: tested.bad,
+        off: tested.off,
         table,
     }
 }
