@@ -2,8 +2,7 @@
 --
 --   Kept ruleids classifierids t   the first of each list are the numbers in t; every list has its length
 --   kept-empty, kept-rule, kept-classifier, kept-configuration   it holds at the start and after each element
---   kept-rulefull, kept-classifierfull   it holds after an element that has no place
---   pushed-rule, pushed-classifier   what a store at the next place is
+--   pushedRule, pushedClassifier   the table with a rule, a classifier, stored at a place; withRule-pushed, -full, .. say when it is what is left
 -- Trusts: nothing.
 use Prim.Native.Nat.{ℕ, _+_, _≤_, _<_}
 use mathlib.Core.Path.{_≡_, refl, sym, ap, _∙_}
@@ -12,7 +11,6 @@ use mathlib.Core.List.{List, map}
 use native.Mathlib.Omega.{arith}
 use borrow.Author.Tests.{lt-ltb, le-ltb}
 use lib.ListN.{length, take, set, replicate, length-set}
-use lib.Seq.{set-out}
 use Rattle.table.specs.Table.{limitedTo, rulesOf, classifiersOf, emptyTable}
 use Rattle.table.specs.declared.Rule.{Rule}
 use Rattle.table.specs.declared.Classifier.{Classifier}
@@ -35,28 +33,28 @@ pub record Kept (ruleids classifierids : List ℕ) (t : Table) : Type 0 where
 pub limited-same : (limit n : ℕ) → n ≤ limit → limitedTo limit n ≡ n
 limited-same limit n h = simp (le-ltb limit n h)
 
--- the rule as it goes to the next place, and the classifier
-abbrev pub pushedRule : Rule → Table → Table
-pushedRule q t =
-    record { rulecount = t .rulecount + 1; classifiercount = t .classifiercount; channelcount = t .channelcount; timers = t .timers; channels = t .channels; classifiers = t .classifiers; rules = set (t .rules) (t .rulecount) q }
+-- the rule as it goes to a place, and the classifier
+abbrev pub pushedRule : ℕ → Rule → Table → Table
+pushedRule at q t =
+    record { rulecount = t .rulecount + 1; classifiercount = t .classifiercount; channelcount = t .channelcount; timers = t .timers; channels = t .channels; classifiers = t .classifiers; rules = set (t .rules) at q }
 
-abbrev pub pushedClassifier : Classifier → Table → Table
-pushedClassifier q t =
-    record { rulecount = t .rulecount; classifiercount = t .classifiercount + 1; channelcount = t .channelcount; timers = t .timers; channels = t .channels; classifiers = set (t .classifiers) (t .classifiercount) q; rules = t .rules }
+abbrev pub pushedClassifier : ℕ → Classifier → Table → Table
+pushedClassifier at q t =
+    record { rulecount = t .rulecount; classifiercount = t .classifiercount + 1; channelcount = t .channelcount; timers = t .timers; channels = t .channels; classifiers = set (t .classifiers) at q; rules = t .rules }
 
 module _ (q : Rule) (t : Table) where
-  pub withRule-pushed : t .rulecount < 32 → pushedRule q t ≡ withRule q t
+  pub withRule-pushed : {at : ℕ} → at ≡ t .rulecount → at < 32 → pushedRule at q t ≡ withRule q t
   unfolding withRule
-  withRule-pushed h = simp (lt-ltb (t .rulecount) 32 h)
+  withRule-pushed e h = simp (e, lt-ltb (t .rulecount) 32 (omega arith))
 
   pub withRule-full : 32 ≤ t .rulecount → t ≡ withRule q t
   unfolding withRule
   withRule-full h = simp (le-ltb (t .rulecount) 32 h)
 
 module _ (q : Classifier) (t : Table) where
-  pub withClassifier-pushed : t .classifiercount < 32 → pushedClassifier q t ≡ withClassifier q t
+  pub withClassifier-pushed : {at : ℕ} → at ≡ t .classifiercount → at < 32 → pushedClassifier at q t ≡ withClassifier q t
   unfolding withClassifier
-  withClassifier-pushed h = simp (lt-ltb (t .classifiercount) 32 h)
+  withClassifier-pushed e h = simp (e, lt-ltb (t .classifiercount) 32 (omega arith))
 
   pub withClassifier-full : 32 ≤ t .classifiercount → t ≡ withClassifier q t
   unfolding withClassifier
@@ -68,10 +66,10 @@ kept-empty =
     record { rules = omega arith; classifiers = omega arith; ruleroom = refl; classifierroom = refl; ruleidroom = refl; classifieridroom = refl; ruled = refl; classified = refl }
 
 module _ {a b : List ℕ} {t : Table} (k : Kept a b t) where
-  pub kept-rule : (q : Rule) → t .rulecount < 32 → {ids : List ℕ} → ids ≡ set a (t .rulecount) (q .number) → Kept ids b (pushedRule q t)
+  pub kept-rule : (q : Rule) {at : ℕ} → at ≡ t .rulecount → at < 32 → {ids : List ℕ} → ids ≡ set a (t .rulecount) (q .number) → Kept ids b (pushedRule at q t)
   unfolding rulesOf classifiersOf
-  kept-rule q h e =
-      rw e
+  kept-rule q f h e =
+      rw (f, e)
       record {
         rules = omega arith;
         classifiers = k .classifiers;
@@ -86,10 +84,10 @@ module _ {a b : List ℕ} {t : Table} (k : Kept a b t) where
         classified = k .classified;
       }
 
-  pub kept-classifier : (q : Classifier) → t .classifiercount < 32 → {ids : List ℕ} → ids ≡ set b (t .classifiercount) (q .number) → Kept a ids (pushedClassifier q t)
+  pub kept-classifier : (q : Classifier) {at : ℕ} → at ≡ t .classifiercount → at < 32 → {ids : List ℕ} → ids ≡ set b (t .classifiercount) (q .number) → Kept a ids (pushedClassifier at q t)
   unfolding rulesOf classifiersOf
-  kept-classifier q h e =
-      rw e
+  kept-classifier q f h e =
+      rw (f, e)
       record {
         rules = k .rules;
         classifiers = omega arith;
@@ -103,12 +101,6 @@ module _ {a b : List ℕ} {t : Table} (k : Kept a b t) where
             (k .classified ∙ simp (limited-same 32 (t .classifiercount) (k .classifiers)))
             ∙ simp (limited-same 32 (t .classifiercount + 1) (omega arith));
       }
-
-  pub kept-rulefull : (n : ℕ) {ids : List ℕ} → 32 ≤ t .rulecount → ids ≡ set a (t .rulecount) n → Kept ids b t
-  kept-rulefull n h e = rw (e, set-out a (t .rulecount) n (omega (arith, k .ruleidroom))) k
-
-  pub kept-classifierfull : (n : ℕ) {ids : List ℕ} → 32 ≤ t .classifiercount → ids ≡ set b (t .classifiercount) n → Kept a ids t
-  kept-classifierfull n h e = rw (e, set-out b (t .classifiercount) n (omega (arith, k .classifieridroom))) k
 
   pub kept-configuration : (q : Configuration) → Kept a b (withConfiguration q t)
   unfolding rulesOf classifiersOf

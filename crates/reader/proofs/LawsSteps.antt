@@ -2,8 +2,10 @@
 --
 --   Taking msg ids carried t so  what the loop over the elements keeps
 --   taking-empty                 before the first element                 takes-all    after the last, or a refusal
---   taking-taken, taking-on, taking-other   after an element that is refused with 14, is taken up, is neither
---   left-less, none-less         what is left of the message falls        kind-known   a type that is to be taken up
+--   taking-put, taking-left      after a rule or classifier that is put in its place; that is refused with 14, or has none
+--   taking-on, taking-other      after another element that is taken up; after one that is not, or is refused
+--   left-less, judged-less       what is left of the message falls        kind-known   a type that is to be taken up
+--   place-taken, place-full, place-at   where a number goes
 --   goes-refused                 nothing is read after a refusal
 --   last-at                      test 15 answers a place
 --   reads-refused, reads-last    a refusal of 6 to 14; what 15 leaves
@@ -14,8 +16,8 @@ use mathlib.Core.Path.{_≡_, refl, sym, ap, _∙_}
 use mathlib.Core.Bool.{Bool, true, false, cond}
 use mathlib.Core.List.{List}
 use native.Mathlib.Omega.{arith}
-use borrow.Author.Tests.{eq-eqb, eqb-true, eqb-false, le-ltb}
-use lib.ListN.{length, replicate}
+use borrow.Author.Tests.{eq-eqb, ne-eqb, eqb-true, eqb-false, le-ltb}
+use lib.ListN.{length, take, set, replicate}
 use lib.Dec.{eqb}
 use Rattle.table.specs.Table.{emptyTable}
 use Rattle.table.specs.declared.Table.{Table}
@@ -23,12 +25,12 @@ use Rattle.contents.specs.Rows.{rowIn, typeAt}
 use Rattle.rows.specs.Rows.{testedAt}
 use Rattle.rows.specs.declared.Tally.{Tally}
 use Rattle.rows.specs.declared.Tested.{Tested}
-use Rattle.named.specs.Named.{loneNumber}
+use Rattle.named.specs.Named.{isListed, loneNumber}
 use Rattle.named.specs.declared.Lone.{Lone}
 use Rattle.named.specs.declared.Lone.the-variants.{Answered, At}
 use Rattle.reader.specs.Take.{withElement, isTaken}
 use Rattle.reader.specs.Read.{refusal, readLone, readRow, readTable}
-use Rattle.reader.specs.Steps.{handed, noneTested, kindOf, GoesOn, lastVerdict, readAll, TakesUp, ReadsAs}
+use Rattle.reader.specs.Steps.{handed, PlaceFor, judgedAs, noneTested, kindOf, GoesOn, lastVerdict, readAll, TakesUp, ReadsAs}
 use Rattle.reader.specs.declared.Reading.{Reading}
 use Rattle.reader.specs.declared.Taken.{Taken}
 use Rattle.reader.specs.declared.Verdict.{Verdict}
@@ -69,11 +71,11 @@ module _ (msg : List ℕ) {ids carried : List ℕ} {t : Table} {so : Tested} (k 
         on true z = next-less msg (so .next) (so .tally) e (g .on y .1) (eqb-true (s .bad) 0 z)
         on false z = let inside = g .on y .1 in omega arith
 
-    pub none-less : 0 < left msg so
+    none-less : 0 < left msg so
     none-less = rw (eq-eqb (so .bad) 0 (g .on y .0)) (let inside = g .on y .1 in omega arith)
 
     -- a number that is taken, 14
-    pub taking-taken : {a b : List ℕ} → s .bad ≡ 0 → isTaken msg (so .next) t ≡ true → Taking msg a b t (record { bad = 14; off = so .next; next = s .next; tally = s .tally })
+    taking-taken : {a b : List ℕ} → s .bad ≡ 0 → isTaken msg (so .next) t ≡ true → Taking msg a b t (record { bad = 14; off = so .next; next = s .next; tally = s .tally })
     unfolding Rests
     taking-taken fine taken =
         record {
@@ -91,6 +93,37 @@ module _ (msg : List ℕ) {ids carried : List ℕ} {t : Table} {so : Tested} (k 
           rests = λ z given. read-goes msg (so .next) (so .tally) e (g .on y .1) given t fine free w ∙ k .rests (g .on y .0) given;
           refused = λ z. absurd (z fine);
         }
+
+    -- a rule or a classifier, whose number has this place
+    module _ (fine : s .bad ≡ 0) {l m : List ℕ} {n x place : ℕ} (p : PlaceFor l n x place m) (i : isListed x (take n l) ≡ isTaken msg (so .next) t) {u : Tested} (f : u ≡ judgedAs s (so .next) place) where
+      judged-free : (place ≡ 33 → ⊥) → u ≡ s
+      unfolding judgedAs
+      judged-free other = f ∙ simp (ne-eqb place 33 other)
+
+      judged-taken : place ≡ 33 → u ≡ record { bad = 14; off = so .next; next = s .next; tally = s .tally }
+      unfolding judgedAs
+      judged-taken same = f ∙ simp (eq-eqb place 33 same)
+
+      pub judged-less : left msg u < left msg so
+      judged-less = on (eqb place 33) refl
+        where
+          on : (b : Bool) → eqb place 33 ≡ b → left msg u < left msg so
+          on true z = rw (judged-taken (eqb-true place 33 z)) none-less
+          on false z = rw (judged-free (eqb-false place 33 z)) left-less
+
+      pub taking-put : place < 32 → {a b : List ℕ} {v : Table} → v ≡ withElement msg (so .next) t → Kept a b v → Taking msg a b v u
+      taking-put h w keeps =
+          let other : place ≡ 33 → ⊥ = λ z. omega arith in
+          rw (judged-free other) (taking-on fine (sym i ∙ p .free other) w keeps)
+
+      pub taking-left : 32 ≤ place → {a b : List ℕ} → (32 ≤ n → t ≡ withElement msg (so .next) t) → (m ≡ l → Kept a b t) → Taking msg a b t u
+      taking-left h {a} {b} w keeps = on (eqb place 33) refl
+        where
+          on : (d : Bool) → eqb place 33 ≡ d → Taking msg a b t u
+          on true z = let same = eqb-true place 33 z in rw (judged-taken same) (taking-taken fine (sym i ∙ p .taken same))
+          on false z =
+              let other = eqb-false place 33 z in
+              rw (judged-free other) (taking-on fine (sym i ∙ p .free other) (w (p .full other h .0)) (keeps (p .full other h .1)))
 
     -- a refusal of 6 to 13, or an element of another type
     pub taking-other : {kind : ℕ} → kind ≡ kindOf msg (so .next) (s .bad) → (kind ≡ 50 → ⊥) → (kind ≡ 23 → ⊥) → (kind ≡ 51 → ⊥) → Taking msg ids carried t s
@@ -114,6 +147,18 @@ module _ (msg : List ℕ) {ids carried : List ℕ} {t : Table} {so : Tested} (k 
               rests = λ x. absurd (fault x);
               refused = λ x given. read-refused msg (so .next) (so .tally) e (g .on y .1) given t fault ∙ k .rests (g .on y .0) given;
             }
+
+-- where a number goes
+module _ {l : List ℕ} {n x : ℕ} {listed : Bool} (e : listed ≡ isListed x (take n l)) where
+  pub place-taken : listed ≡ true → PlaceFor l n x 33 l
+  place-taken y =
+      record { taken = λ z. sym e ∙ y; free = λ z. absurd (z refl); place = λ h. absurd (omega arith); full = λ z. absurd (z refl) }
+
+  pub place-full : listed ≡ false → 32 ≤ n → PlaceFor l n x 32 l
+  place-full y h = record { taken = λ z. absurd (omega arith); free = λ z. sym e ∙ y; place = λ k. absurd (omega arith); full = λ z k. (h, refl) }
+
+  pub place-at : listed ≡ false → n < 32 → PlaceFor l n x n (set l n x)
+  place-at y h = record { taken = λ z. absurd (omega arith); free = λ z. sym e ∙ y; place = λ k. (refl, refl); full = λ z k. absurd (omega arith) }
 
 pub goes-refused : {so : Tested} {end : ℕ} → (so .bad ≡ 0 → ⊥) → GoesOn so end false
 goes-refused fault = record { on = λ z. absurd (let x : _≡_ {A = ℕ} 0 1 = cc in omega arith); stops = λ z fine. absurd (fault fine) }

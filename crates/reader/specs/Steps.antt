@@ -1,6 +1,9 @@
 -- Steps: what the private functions of a reading owe each other. No promise of a public function cites these.
 --
 --   handed given v t       the reading with this verdict: t where it accepts, else the given table
+--   PlaceFor l n x r m     r is the place of the number x in the list l, whose first n are used, and m is the list with it: 33 if it is
+--                          among these, 32 if there is no place
+--   judgedAs so at r       what the element at `at` comes to: 14 if its number has the place 33
 --   noneTested             what the elements come to before the first
 --   kindOf msg at n        the type at `at`, if the element there is refused with no number
 --   GoesOn so end r        r says whether another element is to be read: nothing so far is refused, and the end is not reached
@@ -13,14 +16,14 @@ use Prim.Native.Nat.{ℕ, _≤_, _<_}
 use mathlib.Core.Path.{_≡_}
 use mathlib.Core.Bool.{Bool, true, false, cond}
 use mathlib.Core.List.{List}
-use lib.ListN.{length}
+use lib.ListN.{length, take, set}
 use lib.Dec.{eqb}
 use Rattle.table.specs.Table.{emptyTable}
 use Rattle.table.specs.declared.Table.{Table}
 use Rattle.contents.specs.Rows.{rowIn, typeAt}
 use Rattle.rows.specs.Tests.{emptyTally}
 use Rattle.rows.specs.declared.Tested.{Tested}
-use Rattle.named.specs.Named.{loneNumber}
+use Rattle.named.specs.Named.{isListed, loneNumber}
 use Rattle.named.specs.declared.Lone.{Lone}
 use Rattle.named.specs.declared.Lone.the-variants.{Answered, At}
 use Rattle.reader.specs.Read.{refusal, readLone, readRow}
@@ -36,6 +39,15 @@ handed given (Refused n off) t = refusal n off given
 abbrev pub lastVerdict : Lone → Verdict
 lastVerdict Answered = Accepted
 lastVerdict (At off) = Refused 15 off
+
+pub record PlaceFor (l : List ℕ) (n x r : ℕ) (m : List ℕ) : Type 0 where
+  pub taken : r ≡ 33 → isListed x (take n l) ≡ true
+  pub free : (r ≡ 33 → ⊥) → isListed x (take n l) ≡ false
+  pub place : r < 32 → (r ≡ n) × (m ≡ set l n x)
+  pub full : (r ≡ 33 → ⊥) → 32 ≤ r → (32 ≤ n) × (m ≡ l)
+
+unfoldable pub judgedAs : Tested → ℕ → ℕ → Tested
+judgedAs so at r = cond (eqb r 33) (record { bad = 14; off = at; next = so .next; tally = so .tally }) so
 
 abbrev pub noneTested : Tested
 noneTested = record { bad = 0; off = 0; next = 0; tally = emptyTally }

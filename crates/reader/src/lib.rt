@@ -11,14 +11,18 @@ use rows::Tested;
 use table::Table;
 ghost use mathlib.Core.Path.{_≡_};
 ghost use Prim.Native.Nat.{_<_};
-ghost use lib.ListN.{length, set, take};
+ghost use lib.ListN.{length};
 ghost use Rattle.rows.specs.Rows.{testedAt};
-ghost use Rattle.named.specs.Named.{isListed};
 ghost use Rattle.reader.specs.Read.{refusal, readTable};
-ghost use Rattle.reader.specs.Steps.{noneTested, kindOf, GoesOn, TakesUp, ReadsAs, lastVerdict};
+ghost use Rattle.reader.specs.Steps.{PlaceFor, judgedAs, noneTested, kindOf, GoesOn, TakesUp, ReadsAs, lastVerdict};
 
 // The longest message.
 const MESSAGE_BYTES: usize = 23952;
+
+// No place: a list of 32 is full, or the number is taken.
+const FULL: usize = 32;
+
+const TAKEN: usize = 33;
 
 // What became of a message.
 pub enum Verdict {
@@ -52,17 +56,37 @@ fn refuse(number: u8, offset: usize, given: Table) -> Reading
     }
 }
 
-// Whether the number is among the first `count` of the list. It is noted at the next place, if there is one.
-fn is_taken(list: &mut [u16; 32], count: u8, number: u16) -> bool
+// The place of a number that is to be the next of a list of which the first `count` are used, and is noted there: TAKEN if it is
+// among these, FULL if there is no place.
+fn place_for(list: &mut [u16; 32], count: u8, number: u16) -> usize
     requires { ⌜ length (now list) ≡ 32 ⌝ }
-    ensures { λ r. ⌜ (r ≡ isListed number (take count (now (list .entry)))) × (now (list .exit) ≡ set (now (list .entry)) count number) ⌝ }
+    ensures { λ r. ⌜ PlaceFor (now (list .entry)) count number r (now (list .exit)) ⌝ }
 {
-    let n = count as usize;
-    let taken = named::is_listed(list, count, number);
-    if n < 32 {
-        list[n] = number;
+    if named::is_listed(list, count, number) {
+        return TAKEN;
     }
-    taken
+    let n = count as usize;
+    if FULL <= n {
+        return FULL;
+    }
+    list[n] = number;
+    n
+}
+
+// What an element comes to whose number has this place: 14 if it is taken.
+fn judged(so: Tested, here: usize, place: usize) -> Tested
+    ensures { λ r. ⌜ r ≡ judgedAs so here place ⌝ }
+{
+    if place != TAKEN {
+        return so;
+    }
+    let tally = so.tally;
+    Tested {
+        bad: 14,
+        off: here,
+        next: so.next,
+        tally,
+    }
 }
 
 // Before the first element.
@@ -87,13 +111,13 @@ fn test_next(message: &[u8], so: Tested) -> Tested
 }
 
 // Whether there is an element after those that came to `so`, and none of these was refused.
-fn goes_on(so: Tested, end: usize) -> bool
-    ensures { λ r. ⌜ GoesOn so end r ⌝ }
+fn goes_on(message: &[u8], so: Tested) -> bool
+    ensures { λ r. ⌜ GoesOn so (length (now (message .entry))) r ⌝ }
 {
     if so.bad != 0 {
         return false;
     }
-    so.next < end
+    so.next < message.len()
 }
 
 // The type of the element at `at`, which is to be taken up; 0 if it is refused.
@@ -115,31 +139,27 @@ fn take_up(message: &[u8]) -> Taken
     let mut ruleids = [0u16; 32];
     let mut carried = [0u16; 32];
     let mut tested = none_tested();
-    while goes_on(tested, message.len()) {
+    while goes_on(message, tested) {
         let here = tested.next;
         tested = test_next(message, tested);
         let kind = kind_of(message, here, tested.bad);
         match kind {
             50 => {
                 let rule = contents::rule_at(message, here);
-                let used = table.rulecount;
-                if is_taken(&mut ruleids, used, rule.number as u16) {
-                    tested.bad = 14;
-                    tested.off = here;
-                } else if used < 32 {
-                    table.rules[used as usize] = rule;
-                    table.rulecount = used + 1;
+                let place = place_for(&mut ruleids, table.rulecount, rule.number as u16);
+                tested = judged(tested, here, place);
+                if place < FULL {
+                    table.rules[place] = rule;
+                    table.rulecount += 1;
                 }
             }
             23 => {
                 let classifier = contents::classifier_at(message, here);
-                let used = table.classifiercount;
-                if is_taken(&mut carried, used, classifier.number) {
-                    tested.bad = 14;
-                    tested.off = here;
-                } else if used < 32 {
-                    table.classifiers[used as usize] = classifier;
-                    table.classifiercount = used + 1;
+                let place = place_for(&mut carried, table.classifiercount, classifier.number);
+                tested = judged(tested, here, place);
+                if place < FULL {
+                    table.classifiers[place] = classifier;
+                    table.classifiercount += 1;
                 }
             }
             51 => {

@@ -3,11 +3,11 @@
 -- is left of the message falls.
 -- Trusts: nothing.
 use borrow.Author.Needs.{needs}
-use mathlib.Core.Path.{_≡_, sym, _∙_}
+use mathlib.Core.Path.{_∙_}
 use native.Mathlib.Omega.{arith}
 use Rattle.reader.proofs.LawsRead.{isTaken-rule, isTaken-classifier, isTaken-configuration, withElement-rule, withElement-classifier, withElement-configuration}
-use Rattle.reader.proofs.Kept.{kept-rule, kept-rulefull, kept-classifier, kept-classifierfull, kept-configuration, withRule-pushed, withRule-full, withClassifier-pushed, withClassifier-full}
-use Rattle.reader.proofs.LawsSteps.{Taking, left, taking-empty, takes-all, left-less, none-less, taking-taken, taking-on, taking-other, kind-known}
+use Rattle.reader.proofs.Kept.{kept-rule, kept-classifier, kept-configuration, withRule-pushed, withRule-full, withClassifier-pushed, withClassifier-full}
+use Rattle.reader.proofs.LawsSteps.{Taking, left, taking-empty, takes-all, left-less, judged-less, taking-put, taking-left, taking-on, taking-other, kind-known}
 use Rattle.reader.proofs.take_up.Statement.{statement}
 use Rattle.reader.proofs.take_up.Tie as tie
 
@@ -32,28 +32,24 @@ take-up-spec =
     (λ c κs. search needs)
     (λ c. search needs)
     (λ c κs. c .before .before .before .before .before .before .before .before .loop .inv .kept (c .before .before .before .before .before .before .before .goes-on .ensures .on (c .before .before .before .before .before .before .if1 .taken) .0) .ruleidroom)
-    (λ c. none-less _ (c .before .before .before .before .before .before .before .before .before .before .loop .inv) (c .before .before .before .before .before .before .before .before .before .goes-on .ensures) (c .before .before .before .before .before .before .before .before .if1 .taken) (c .before .before .before .before .before .before .before .test-next .ensures))
-    (λ c. let known = (kind-known _ _ _ (c .before .before .before .before .before .before .kind-of .ensures) (λ z. omega (arith, c .before .before .before .before .before .match .keys1))) in taking-taken _ (c .before .before .before .before .before .before .before .before .before .before .loop .inv) (c .before .before .before .before .before .before .before .before .before .goes-on .ensures) (c .before .before .before .before .before .before .before .before .if1 .taken) (c .before .before .before .before .before .before .before .test-next .ensures) (known .0) (sym (isTaken-rule _ _ _ (known .1 ∙ c .before .before .before .before .before .match .keys1) (c .before .before .before .before .rule-at .ensures) (c .before .before .before .before .before .before .before .before .before .before .loop .inv .kept (c .before .before .before .before .before .before .before .before .before .goes-on .ensures .on (c .before .before .before .before .before .before .before .before .if1 .taken) .0) .ruled)) ∙ sym (c .before .is-taken .ensures .0) ∙ c .if2 .taken))
+    (λ c κs. search needs)
     (λ c. search needs)
     (λ c. search needs)
-    (λ c. search needs)
-    (λ c. omega arith)
-    (λ c. left-less _ (c .before .before .before .before .before .before .before .before .before .before .before .loop .inv) (c .before .before .before .before .before .before .before .before .before .before .goes-on .ensures) (c .before .before .before .before .before .before .before .before .before .if1 .taken) (c .before .before .before .before .before .before .before .before .test-next .ensures))
-    (λ c. let known = (kind-known _ _ _ (c .before .before .before .before .before .before .before .kind-of .ensures) (λ z. omega (arith, c .before .before .before .before .before .before .match .keys1))) in taking-on _ (c .before .before .before .before .before .before .before .before .before .before .before .loop .inv) (c .before .before .before .before .before .before .before .before .before .before .goes-on .ensures) (c .before .before .before .before .before .before .before .before .before .if1 .taken) (c .before .before .before .before .before .before .before .before .test-next .ensures) (known .0) (sym (isTaken-rule _ _ _ (known .1 ∙ c .before .before .before .before .before .before .match .keys1) (c .before .before .before .before .before .rule-at .ensures) (c .before .before .before .before .before .before .before .before .before .before .before .loop .inv .kept (c .before .before .before .before .before .before .before .before .before .before .goes-on .ensures .on (c .before .before .before .before .before .before .before .before .before .if1 .taken) .0) .ruled)) ∙ sym (c .before .before .is-taken .ensures .0) ∙ c .before .if2 .left) (withRule-pushed _ _ (c .if3 .taken) ∙ withElement-rule _ _ _ (known .1 ∙ c .before .before .before .before .before .before .match .keys1) (c .before .before .before .before .before .rule-at .ensures)) (kept-rule (c .before .before .before .before .before .before .before .before .before .before .before .loop .inv .kept (c .before .before .before .before .before .before .before .before .before .before .goes-on .ensures .on (c .before .before .before .before .before .before .before .before .before .if1 .taken) .0)) _ (c .if3 .taken) (c .before .before .is-taken .ensures .1)))
-    (λ c. left-less _ (c .before .before .before .before .before .before .before .before .before .before .before .loop .inv) (c .before .before .before .before .before .before .before .before .before .before .goes-on .ensures) (c .before .before .before .before .before .before .before .before .before .if1 .taken) (c .before .before .before .before .before .before .before .before .test-next .ensures))
-    (λ c. let known = (kind-known _ _ _ (c .before .before .before .before .before .before .before .kind-of .ensures) (λ z. omega (arith, c .before .before .before .before .before .before .match .keys1))) in taking-on _ (c .before .before .before .before .before .before .before .before .before .before .before .loop .inv) (c .before .before .before .before .before .before .before .before .before .before .goes-on .ensures) (c .before .before .before .before .before .before .before .before .before .if1 .taken) (c .before .before .before .before .before .before .before .before .test-next .ensures) (known .0) (sym (isTaken-rule _ _ _ (known .1 ∙ c .before .before .before .before .before .before .match .keys1) (c .before .before .before .before .before .rule-at .ensures) (c .before .before .before .before .before .before .before .before .before .before .before .loop .inv .kept (c .before .before .before .before .before .before .before .before .before .before .goes-on .ensures .on (c .before .before .before .before .before .before .before .before .before .if1 .taken) .0) .ruled)) ∙ sym (c .before .before .is-taken .ensures .0) ∙ c .before .if2 .left) (withRule-full _ _ (c .if3 .left) ∙ withElement-rule _ _ _ (known .1 ∙ c .before .before .before .before .before .before .match .keys1) (c .before .before .before .before .before .rule-at .ensures)) (kept-rulefull (c .before .before .before .before .before .before .before .before .before .before .before .loop .inv .kept (c .before .before .before .before .before .before .before .before .before .before .goes-on .ensures .on (c .before .before .before .before .before .before .before .before .before .if1 .taken) .0)) _ (c .if3 .left) (c .before .before .is-taken .ensures .1)))
+    (λ c. let at = c .before .before .place-for .ensures .place (c .if2 .taken) in omega arith)
+    (λ c. let known = (kind-known _ _ _ (c .before .before .before .before .before .before .before .kind-of .ensures) (λ z. omega (arith, c .before .before .before .before .before .before .match .keys1))) in judged-less _ (c .before .before .before .before .before .before .before .before .before .before .before .loop .inv) (c .before .before .before .before .before .before .before .before .before .before .goes-on .ensures) (c .before .before .before .before .before .before .before .before .before .if1 .taken) (c .before .before .before .before .before .before .before .before .test-next .ensures) (known .0) (c .before .before .place-for .ensures) (isTaken-rule _ _ _ (known .1 ∙ c .before .before .before .before .before .before .match .keys1) (c .before .before .before .before .before .rule-at .ensures) (c .before .before .before .before .before .before .before .before .before .before .before .loop .inv .kept (c .before .before .before .before .before .before .before .before .before .before .goes-on .ensures .on (c .before .before .before .before .before .before .before .before .before .if1 .taken) .0) .ruled)) (c .before .judged .ensures))
+    (λ c. let known = (kind-known _ _ _ (c .before .before .before .before .before .before .before .kind-of .ensures) (λ z. omega (arith, c .before .before .before .before .before .before .match .keys1))) in let at = c .before .before .place-for .ensures .place (c .if2 .taken) in taking-put _ (c .before .before .before .before .before .before .before .before .before .before .before .loop .inv) (c .before .before .before .before .before .before .before .before .before .before .goes-on .ensures) (c .before .before .before .before .before .before .before .before .before .if1 .taken) (c .before .before .before .before .before .before .before .before .test-next .ensures) (known .0) (c .before .before .place-for .ensures) (isTaken-rule _ _ _ (known .1 ∙ c .before .before .before .before .before .before .match .keys1) (c .before .before .before .before .before .rule-at .ensures) (c .before .before .before .before .before .before .before .before .before .before .before .loop .inv .kept (c .before .before .before .before .before .before .before .before .before .before .goes-on .ensures .on (c .before .before .before .before .before .before .before .before .before .if1 .taken) .0) .ruled)) (c .before .judged .ensures) (c .if2 .taken) (withRule-pushed _ _ (at .0) (c .if2 .taken) ∙ withElement-rule _ _ _ (known .1 ∙ c .before .before .before .before .before .before .match .keys1) (c .before .before .before .before .before .rule-at .ensures)) (kept-rule (c .before .before .before .before .before .before .before .before .before .before .before .loop .inv .kept (c .before .before .before .before .before .before .before .before .before .before .goes-on .ensures .on (c .before .before .before .before .before .before .before .before .before .if1 .taken) .0)) _ (at .0) (c .if2 .taken) (at .1)))
+    (λ c. let known = (kind-known _ _ _ (c .before .before .before .before .before .before .before .kind-of .ensures) (λ z. omega (arith, c .before .before .before .before .before .before .match .keys1))) in judged-less _ (c .before .before .before .before .before .before .before .before .before .before .before .loop .inv) (c .before .before .before .before .before .before .before .before .before .before .goes-on .ensures) (c .before .before .before .before .before .before .before .before .before .if1 .taken) (c .before .before .before .before .before .before .before .before .test-next .ensures) (known .0) (c .before .before .place-for .ensures) (isTaken-rule _ _ _ (known .1 ∙ c .before .before .before .before .before .before .match .keys1) (c .before .before .before .before .before .rule-at .ensures) (c .before .before .before .before .before .before .before .before .before .before .before .loop .inv .kept (c .before .before .before .before .before .before .before .before .before .before .goes-on .ensures .on (c .before .before .before .before .before .before .before .before .before .if1 .taken) .0) .ruled)) (c .before .judged .ensures))
+    (λ c. let known = (kind-known _ _ _ (c .before .before .before .before .before .before .before .kind-of .ensures) (λ z. omega (arith, c .before .before .before .before .before .before .match .keys1))) in taking-left _ (c .before .before .before .before .before .before .before .before .before .before .before .loop .inv) (c .before .before .before .before .before .before .before .before .before .before .goes-on .ensures) (c .before .before .before .before .before .before .before .before .before .if1 .taken) (c .before .before .before .before .before .before .before .before .test-next .ensures) (known .0) (c .before .before .place-for .ensures) (isTaken-rule _ _ _ (known .1 ∙ c .before .before .before .before .before .before .match .keys1) (c .before .before .before .before .before .rule-at .ensures) (c .before .before .before .before .before .before .before .before .before .before .before .loop .inv .kept (c .before .before .before .before .before .before .before .before .before .before .goes-on .ensures .on (c .before .before .before .before .before .before .before .before .before .if1 .taken) .0) .ruled)) (c .before .judged .ensures) (c .if2 .left) (λ h. withRule-full _ _ h ∙ withElement-rule _ _ _ (known .1 ∙ c .before .before .before .before .before .before .match .keys1) (c .before .before .before .before .before .rule-at .ensures)) (λ e. rw e (c .before .before .before .before .before .before .before .before .before .before .before .loop .inv .kept (c .before .before .before .before .before .before .before .before .before .before .goes-on .ensures .on (c .before .before .before .before .before .before .before .before .before .if1 .taken) .0))))
     (λ c κs. search needs)
     (λ c κs. c .before .before .before .before .before .before .before .loop .inv .kept (c .before .before .before .before .before .before .goes-on .ensures .on (c .before .before .before .before .before .if1 .taken) .0) .classifieridroom)
-    (λ c. none-less _ (c .before .before .before .before .before .before .before .before .before .loop .inv) (c .before .before .before .before .before .before .before .before .goes-on .ensures) (c .before .before .before .before .before .before .before .if1 .taken) (c .before .before .before .before .before .before .test-next .ensures))
-    (λ c. let known = (kind-known _ _ _ (c .before .before .before .before .before .kind-of .ensures) (λ z. omega (arith, c .before .before .before .before .match .keys2))) in taking-taken _ (c .before .before .before .before .before .before .before .before .before .loop .inv) (c .before .before .before .before .before .before .before .before .goes-on .ensures) (c .before .before .before .before .before .before .before .if1 .taken) (c .before .before .before .before .before .before .test-next .ensures) (known .0) (sym (isTaken-classifier _ _ _ (known .1 ∙ c .before .before .before .before .match .keys2) (c .before .before .before .classifier-at .ensures) (c .before .before .before .before .before .before .before .before .before .loop .inv .kept (c .before .before .before .before .before .before .before .before .goes-on .ensures .on (c .before .before .before .before .before .before .before .if1 .taken) .0) .classified)) ∙ sym (c .before .is-taken2 .ensures .0) ∙ c .if4 .taken))
+    (λ c κs. search needs)
     (λ c. search needs)
     (λ c. search needs)
-    (λ c. search needs)
-    (λ c. omega arith)
-    (λ c. left-less _ (c .before .before .before .before .before .before .before .before .before .before .loop .inv) (c .before .before .before .before .before .before .before .before .before .goes-on .ensures) (c .before .before .before .before .before .before .before .before .if1 .taken) (c .before .before .before .before .before .before .before .test-next .ensures))
-    (λ c. let known = (kind-known _ _ _ (c .before .before .before .before .before .before .kind-of .ensures) (λ z. omega (arith, c .before .before .before .before .before .match .keys2))) in taking-on _ (c .before .before .before .before .before .before .before .before .before .before .loop .inv) (c .before .before .before .before .before .before .before .before .before .goes-on .ensures) (c .before .before .before .before .before .before .before .before .if1 .taken) (c .before .before .before .before .before .before .before .test-next .ensures) (known .0) (sym (isTaken-classifier _ _ _ (known .1 ∙ c .before .before .before .before .before .match .keys2) (c .before .before .before .before .classifier-at .ensures) (c .before .before .before .before .before .before .before .before .before .before .loop .inv .kept (c .before .before .before .before .before .before .before .before .before .goes-on .ensures .on (c .before .before .before .before .before .before .before .before .if1 .taken) .0) .classified)) ∙ sym (c .before .before .is-taken2 .ensures .0) ∙ c .before .if4 .left) (withClassifier-pushed _ _ (c .if5 .taken) ∙ withElement-classifier _ _ _ (known .1 ∙ c .before .before .before .before .before .match .keys2) (c .before .before .before .before .classifier-at .ensures)) (kept-classifier (c .before .before .before .before .before .before .before .before .before .before .loop .inv .kept (c .before .before .before .before .before .before .before .before .before .goes-on .ensures .on (c .before .before .before .before .before .before .before .before .if1 .taken) .0)) _ (c .if5 .taken) (c .before .before .is-taken2 .ensures .1)))
-    (λ c. left-less _ (c .before .before .before .before .before .before .before .before .before .before .loop .inv) (c .before .before .before .before .before .before .before .before .before .goes-on .ensures) (c .before .before .before .before .before .before .before .before .if1 .taken) (c .before .before .before .before .before .before .before .test-next .ensures))
-    (λ c. let known = (kind-known _ _ _ (c .before .before .before .before .before .before .kind-of .ensures) (λ z. omega (arith, c .before .before .before .before .before .match .keys2))) in taking-on _ (c .before .before .before .before .before .before .before .before .before .before .loop .inv) (c .before .before .before .before .before .before .before .before .before .goes-on .ensures) (c .before .before .before .before .before .before .before .before .if1 .taken) (c .before .before .before .before .before .before .before .test-next .ensures) (known .0) (sym (isTaken-classifier _ _ _ (known .1 ∙ c .before .before .before .before .before .match .keys2) (c .before .before .before .before .classifier-at .ensures) (c .before .before .before .before .before .before .before .before .before .before .loop .inv .kept (c .before .before .before .before .before .before .before .before .before .goes-on .ensures .on (c .before .before .before .before .before .before .before .before .if1 .taken) .0) .classified)) ∙ sym (c .before .before .is-taken2 .ensures .0) ∙ c .before .if4 .left) (withClassifier-full _ _ (c .if5 .left) ∙ withElement-classifier _ _ _ (known .1 ∙ c .before .before .before .before .before .match .keys2) (c .before .before .before .before .classifier-at .ensures)) (kept-classifierfull (c .before .before .before .before .before .before .before .before .before .before .loop .inv .kept (c .before .before .before .before .before .before .before .before .before .goes-on .ensures .on (c .before .before .before .before .before .before .before .before .if1 .taken) .0)) _ (c .if5 .left) (c .before .before .is-taken2 .ensures .1)))
+    (λ c. let at = c .before .before .place-for2 .ensures .place (c .if3 .taken) in omega arith)
+    (λ c. let known = (kind-known _ _ _ (c .before .before .before .before .before .before .kind-of .ensures) (λ z. omega (arith, c .before .before .before .before .before .match .keys2))) in judged-less _ (c .before .before .before .before .before .before .before .before .before .before .loop .inv) (c .before .before .before .before .before .before .before .before .before .goes-on .ensures) (c .before .before .before .before .before .before .before .before .if1 .taken) (c .before .before .before .before .before .before .before .test-next .ensures) (known .0) (c .before .before .place-for2 .ensures) (isTaken-classifier _ _ _ (known .1 ∙ c .before .before .before .before .before .match .keys2) (c .before .before .before .before .classifier-at .ensures) (c .before .before .before .before .before .before .before .before .before .before .loop .inv .kept (c .before .before .before .before .before .before .before .before .before .goes-on .ensures .on (c .before .before .before .before .before .before .before .before .if1 .taken) .0) .classified)) (c .before .judged2 .ensures))
+    (λ c. let known = (kind-known _ _ _ (c .before .before .before .before .before .before .kind-of .ensures) (λ z. omega (arith, c .before .before .before .before .before .match .keys2))) in let at = c .before .before .place-for2 .ensures .place (c .if3 .taken) in taking-put _ (c .before .before .before .before .before .before .before .before .before .before .loop .inv) (c .before .before .before .before .before .before .before .before .before .goes-on .ensures) (c .before .before .before .before .before .before .before .before .if1 .taken) (c .before .before .before .before .before .before .before .test-next .ensures) (known .0) (c .before .before .place-for2 .ensures) (isTaken-classifier _ _ _ (known .1 ∙ c .before .before .before .before .before .match .keys2) (c .before .before .before .before .classifier-at .ensures) (c .before .before .before .before .before .before .before .before .before .before .loop .inv .kept (c .before .before .before .before .before .before .before .before .before .goes-on .ensures .on (c .before .before .before .before .before .before .before .before .if1 .taken) .0) .classified)) (c .before .judged2 .ensures) (c .if3 .taken) (withClassifier-pushed _ _ (at .0) (c .if3 .taken) ∙ withElement-classifier _ _ _ (known .1 ∙ c .before .before .before .before .before .match .keys2) (c .before .before .before .before .classifier-at .ensures)) (kept-classifier (c .before .before .before .before .before .before .before .before .before .before .loop .inv .kept (c .before .before .before .before .before .before .before .before .before .goes-on .ensures .on (c .before .before .before .before .before .before .before .before .if1 .taken) .0)) _ (at .0) (c .if3 .taken) (at .1)))
+    (λ c. let known = (kind-known _ _ _ (c .before .before .before .before .before .before .kind-of .ensures) (λ z. omega (arith, c .before .before .before .before .before .match .keys2))) in judged-less _ (c .before .before .before .before .before .before .before .before .before .before .loop .inv) (c .before .before .before .before .before .before .before .before .before .goes-on .ensures) (c .before .before .before .before .before .before .before .before .if1 .taken) (c .before .before .before .before .before .before .before .test-next .ensures) (known .0) (c .before .before .place-for2 .ensures) (isTaken-classifier _ _ _ (known .1 ∙ c .before .before .before .before .before .match .keys2) (c .before .before .before .before .classifier-at .ensures) (c .before .before .before .before .before .before .before .before .before .before .loop .inv .kept (c .before .before .before .before .before .before .before .before .before .goes-on .ensures .on (c .before .before .before .before .before .before .before .before .if1 .taken) .0) .classified)) (c .before .judged2 .ensures))
+    (λ c. let known = (kind-known _ _ _ (c .before .before .before .before .before .before .kind-of .ensures) (λ z. omega (arith, c .before .before .before .before .before .match .keys2))) in taking-left _ (c .before .before .before .before .before .before .before .before .before .before .loop .inv) (c .before .before .before .before .before .before .before .before .before .goes-on .ensures) (c .before .before .before .before .before .before .before .before .if1 .taken) (c .before .before .before .before .before .before .before .test-next .ensures) (known .0) (c .before .before .place-for2 .ensures) (isTaken-classifier _ _ _ (known .1 ∙ c .before .before .before .before .before .match .keys2) (c .before .before .before .before .classifier-at .ensures) (c .before .before .before .before .before .before .before .before .before .before .loop .inv .kept (c .before .before .before .before .before .before .before .before .before .goes-on .ensures .on (c .before .before .before .before .before .before .before .before .if1 .taken) .0) .classified)) (c .before .judged2 .ensures) (c .if3 .left) (λ h. withClassifier-full _ _ h ∙ withElement-classifier _ _ _ (known .1 ∙ c .before .before .before .before .before .match .keys2) (c .before .before .before .before .classifier-at .ensures)) (λ e. rw e (c .before .before .before .before .before .before .before .before .before .before .loop .inv .kept (c .before .before .before .before .before .before .before .before .before .goes-on .ensures .on (c .before .before .before .before .before .before .before .before .if1 .taken) .0))))
     (λ c κs. search needs)
     (λ c. left-less _ (c .before .before .before .before .before .before .before .before .loop .inv) (c .before .before .before .before .before .before .before .goes-on .ensures) (c .before .before .before .before .before .before .if1 .taken) (c .before .before .before .before .before .test-next .ensures))
     (λ c. let known = (kind-known _ _ _ (c .before .before .before .before .kind-of .ensures) (λ z. omega (arith, c .before .before .before .match .keys3))) in taking-on _ (c .before .before .before .before .before .before .before .before .loop .inv) (c .before .before .before .before .before .before .before .goes-on .ensures) (c .before .before .before .before .before .before .if1 .taken) (c .before .before .before .before .before .test-next .ensures) (known .0) (isTaken-configuration _ _ _ (known .1 ∙ c .before .before .before .match .keys3)) (withElement-configuration _ _ _ (known .1 ∙ c .before .before .before .match .keys3) (c .before .before .configuration-at .ensures)) (kept-configuration (c .before .before .before .before .before .before .before .before .loop .inv .kept (c .before .before .before .before .before .before .before .goes-on .ensures .on (c .before .before .before .before .before .before .if1 .taken) .0)) _))
