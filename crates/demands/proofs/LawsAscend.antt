@@ -19,7 +19,7 @@ use Rattle.elements.specs.Elements.{headAt}
 use Rattle.elements.specs.declared.Head.{Head}
 use Rattle.elements.specs.declared.Head.the-variants.{End, Refused, Value}
 use Rattle.elements.proofs.Laws.{headAt-fits}
-use Rattle.contents.specs.Rows.{rowWith, rowFrom, rowIn, rowOfHead, rowInside, typeAt, placesOf}
+use Rattle.children.specs.Rows.{rowWith, rowFrom, rowIn, rowOfHead, rowInside, typeAt, placesOf}
 
 abbrev pub Ascending : ℕ → ℕ → List ℕ → Type 0
 Ascending lo hi [] = lo ≤ hi

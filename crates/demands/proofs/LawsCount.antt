@@ -17,11 +17,12 @@ use lib.Seq.{set-out, getD-set-same, getD-set-other}
 use lib.Dec.{eqb}
 use Rattle.elements.specs.Places.{typeUnder}
 use Rattle.elements.specs.declared.types.Known.{Known}
-use Rattle.rows.specs.Tests.{stepped, secondCopy, wrongLength, badValue, isFull, ownTests, isRow}
+use Rattle.element_tests.specs.Tests.{stepped, secondCopy, wrongLength, badValue, isFull, ownTests}
+use Rattle.rows.specs.Tests.{isRow}
 use Rattle.rows.specs.Rows.{elementWith, noted}
-use Rattle.rows.specs.declared.Step.{Step}
+use Rattle.element_tests.specs.declared.Step.{Step}
 use Rattle.rows.specs.declared.Fault.{Fault}
-use Rattle.contents.specs.Rows.{typeAt}
+use Rattle.children.specs.Rows.{typeAt}
 
 module _ (msg : List ℕ) (known : Known) (at len count : ℕ) where
   own-passed : ownTests msg known at len count .bad ≡ 0 → (isFull (known .repeats) (known .room) count len ≡ false) × (ownTests msg known at len count ≡ stepped 0 at (known .list) (count + 1))

@@ -16,7 +16,7 @@ use lib.ListN.{length, take, set}
 use lib.Seq.{length-take-le, append-snoc, take-append-le, take-suc-set}
 use lib.Dec.{eqb}
 use Rattle.table.specs.Table.{limitedTo}
-use Rattle.contents.specs.Rows.{Row, done, bad, item, rowFold, typeAt, placesOf}
+use Rattle.children.specs.Rows.{Row, done, bad, item, rowFold, typeAt, placesOf}
 
 -- the value is put at the end of the list, or the list is full and stays
 abbrev pub Takes : {A : Type 0} → ℕ → List A → A → List A → Type 0

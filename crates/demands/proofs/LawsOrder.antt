@@ -19,10 +19,11 @@ use Rattle.table.specs.Table.{rulesOf, classifiersOf, numbersOf, emptyRule, emp
 use Rattle.table.specs.declared.Rule.{Rule}
 use Rattle.table.specs.declared.Table.{Table}
 use Rattle.table.proofs.Laws.{length-rulesOf-le, length-classifiersOf-le, length-numbersOf-le}
-use Rattle.contents.specs.Rows.{rowIn, rowInside, typeAt, placesOf}
-use Rattle.contents.specs.Rules.{clientsIn, withNumber, withPriority, withUcids, withClients, withTunnel, withNamed, withRuleChild, ruleAt}
-use Rattle.contents.specs.Classifiers.{classifierAt}
-use Rattle.contents.specs.Configurations.{configurationAt}
+use Rattle.children.specs.Rows.{rowIn, rowInside, typeAt, placesOf}
+use Rattle.clients.specs.Clients.{clientsIn}
+use Rattle.rules.specs.Rules.{withNumber, withPriority, withUcids, withClients, withTunnel, withNamed, withRuleChild, ruleAt}
+use Rattle.classifiers.specs.Classifiers.{classifierAt}
+use Rattle.configurations.specs.Configurations.{configurationAt}
 use Rattle.reader.specs.Take.{withRule, withClassifier, withConfiguration, withElement, tableOf}
 use Rattle.demands.proofs.LawsFill.{Takes, filled, stored, full}
 

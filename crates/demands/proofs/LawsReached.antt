@@ -19,7 +19,7 @@ use Rattle.elements.specs.declared.Head.the-variants.{End, Refused, Value}
 use Rattle.elements.proofs.Laws.{headAt-starts}
 use Rattle.table.specs.Table.{emptyTable}
 use Rattle.table.specs.declared.Table.{Table}
-use Rattle.contents.specs.Rows.{Row, item, rowWith, rowFrom, rowIn, rowFold, typeAt, placesOf}
+use Rattle.children.specs.Rows.{Row, item, rowWith, rowFrom, rowIn, rowFold, typeAt, placesOf}
 use Rattle.rows.specs.Tests.{noneCounted, emptyTally}
 use Rattle.rows.specs.Rows.{testedAt}
 use Rattle.rows.specs.declared.Tally.{Tally}

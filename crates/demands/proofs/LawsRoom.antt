@@ -17,13 +17,14 @@ use Rattle.elements.specs.Types.{knownTypes}
 use Rattle.elements.specs.Places.{childOf, under, placed, typeOf, parentIn, table, lineAt, placeIn, knownAt, typeUnder}
 use Rattle.elements.specs.declared.Head.{Head}
 use Rattle.elements.specs.declared.Head.the-variants.{End, Refused, Value}
-use Rattle.rows.specs.Tests.{stepped, isRow, rowEnd, noneCounted}
+use Rattle.element_tests.specs.Tests.{stepped}
+use Rattle.rows.specs.Tests.{isRow, rowEnd, noneCounted}
 use Rattle.rows.specs.Rows as rows
 use Rattle.rows.specs.Rows.{elementWith, noted, goOn, onHead, rowStep, rowOf, elementOf, testedAt}
 use Rattle.rows.specs.declared.Tally.{Tally}
-use Rattle.rows.specs.declared.Step.{Step}
+use Rattle.element_tests.specs.declared.Step.{Step}
 use Rattle.rows.specs.declared.Fault.{Fault}
-use Rattle.contents.specs.Rows.{rowWith, rowFrom, rowIn, rowInside, typeAt, placesOf}
+use Rattle.children.specs.Rows.{rowWith, rowFrom, rowIn, rowInside, typeAt, placesOf}
 use Rattle.demands.proofs.LawsCount.{Counted, element-passed, Repeats, turn-room}
 
 -- ---- the table on 50, 50.6 and 23: a rule is place 1, its numbers are list 5 of its row, classifiers are list 0 of the top level

@@ -14,8 +14,8 @@ use lib.ListN.{length, getD, take, drop, length-take, length-map, List·getD-map
 use lib.Seq.{take-all, take-take, split-at, getD-take}
 use Rattle.wire.specs.Bytes.{numberAt}
 use Rattle.table.specs.Table.{emptyRule}
-use Rattle.contents.specs.Rows.{rowInside, placesOf}
-use Rattle.contents.specs.Rules.{ruleAt}
+use Rattle.children.specs.Rows.{rowInside, placesOf}
+use Rattle.rules.specs.Rules.{ruleAt}
 use Rattle.named.specs.Named.{isListed}
 use Rattle.demands.proofs.LawsOrder.{numbersOf-ruleAt}
 use Rattle.demands.proofs.LawsAscend.{Ascending, ascending-behind, inside-ascends, inside-after, Apart, apart-behind}

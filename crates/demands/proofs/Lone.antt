@@ -24,10 +24,12 @@ use Rattle.elements.specs.Places.{childOf, under, placed, typeOf, parentIn, tab
 use Rattle.table.specs.Table.{rulesOf, classifiersOf, numbersOf, emptyTable}
 use Rattle.table.specs.declared.Classifier.{Classifier}
 use Rattle.table.specs.declared.Table.{Table}
-use Rattle.contents.specs.Rows.{done, item, rowFrom, rowIn, rowInside, placesOf}
-use Rattle.contents.specs.Rules.{withClient, clientAt, withClientChild, clientsIn, withNamed, withRuleChild, ruleAt}
-use Rattle.contents.specs.Classifiers.{classifierAt}
-use Rattle.rows.specs.Tests.{secondCopy, wrongLength, noChannel, badValue, isFull, ownTests, isRow, rowEnd, noneCounted, emptyTally}
+use Rattle.children.specs.Rows.{done, item, rowFrom, rowIn, rowInside, placesOf}
+use Rattle.clients.specs.Clients.{withClient, clientAt, withClientChild, clientsIn}
+use Rattle.rules.specs.Rules.{withNamed, withRuleChild, ruleAt}
+use Rattle.classifiers.specs.Classifiers.{classifierAt}
+use Rattle.element_tests.specs.Tests.{secondCopy, wrongLength, noChannel, badValue, isFull, ownTests}
+use Rattle.rows.specs.Tests.{isRow, rowEnd, noneCounted, emptyTally}
 use Rattle.rows.specs.Rows as rows
 use Rattle.rows.specs.Rows.{elementWith, rowStep, rowOf, elementOf, testedAt}
 use Rattle.named.specs.Named.{isListed, classifierNumbers, unanswered, namedPlace, loneNumber}

@@ -22,9 +22,9 @@ use Rattle.elements.proofs.types.find_type.Reads as find_type
 use Rattle.elements.proofs.types.lacks_must.Reads as lacks_must
 use Rattle.rows.proofs.empty_tally.Reads as empty_tally
 use Rattle.rows.proofs.test_element.Reads as test_element
-use Rattle.contents.proofs.rule_at.Reads as rule_at
-use Rattle.contents.proofs.classifier_at.Reads as classifier_at
-use Rattle.contents.proofs.configuration_at.Reads as configuration_at
+use Rattle.rules.proofs.rule_at.Reads as rule_at
+use Rattle.classifiers.proofs.classifier_at.Reads as classifier_at
+use Rattle.configurations.proofs.configuration_at.Reads as configuration_at
 use Rattle.named.proofs.is_listed.Reads as is_listed
 use Rattle.named.proofs.lone_number.Reads as lone_number
 use Rattle.matching.proofs.wrong_length.Reads as wrong_length

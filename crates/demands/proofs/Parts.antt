@@ -30,12 +30,12 @@ use Rattle.rows.specs.Tests.{emptyTally}
 use Rattle.rows.specs.Rows.{testedAt}
 use Rattle.rows.proofs.empty_tally.Reads as empty_tally
 use Rattle.rows.proofs.test_element.Reads as test_element
-use Rattle.contents.specs.Rules.{ruleAt}
-use Rattle.contents.specs.Classifiers.{classifierAt}
-use Rattle.contents.specs.Configurations.{configurationAt}
-use Rattle.contents.proofs.rule_at.Reads as rule_at
-use Rattle.contents.proofs.classifier_at.Reads as classifier_at
-use Rattle.contents.proofs.configuration_at.Reads as configuration_at
+use Rattle.rules.specs.Rules.{ruleAt}
+use Rattle.classifiers.specs.Classifiers.{classifierAt}
+use Rattle.configurations.specs.Configurations.{configurationAt}
+use Rattle.rules.proofs.rule_at.Reads as rule_at
+use Rattle.classifiers.proofs.classifier_at.Reads as classifier_at
+use Rattle.configurations.proofs.configuration_at.Reads as configuration_at
 use Rattle.named.specs.Named.{isAmong, loneNumber}
 use Rattle.named.proofs.is_listed.Reads as is_listed
 use Rattle.named.proofs.lone_number.Reads as lone_number

@@ -19,11 +19,13 @@ use Rattle.elements.specs.Elements.{headAt}
 use Rattle.elements.specs.Types.{knownTypes}
 use Rattle.elements.specs.Places.{childOf, under, placed, typeOf, parentIn, table, lineAt, placeIn, knownAt, typeUnder, missingIn, lacksMust}
 use Rattle.rows.specs.declared.Tally.{Tally}
-use Rattle.rows.specs.Tests.{secondCopy, wrongLength, noChannel, badValue, isFull, ownTests, isRow, rowEnd, emptyTally}
+use Rattle.element_tests.specs.Tests.{secondCopy, wrongLength, noChannel, badValue, isFull, ownTests}
+use Rattle.rows.specs.Tests.{isRow, rowEnd, emptyTally}
 use Rattle.rows.specs.Rows as rows
 use Rattle.rows.specs.Rows.{elementWith, rowStep, rowOf, elementOf, testedAt}
-use Rattle.contents.specs.Rows.{done, item, rowFrom, rowIn, rowInside}
-use Rattle.contents.specs.Rules.{withClientChild, clientsIn, withRuleChild, ruleAt}
+use Rattle.children.specs.Rows.{done, item, rowFrom, rowIn, rowInside}
+use Rattle.clients.specs.Clients.{withClientChild, clientsIn}
+use Rattle.rules.specs.Rules.{withRuleChild, ruleAt}
 use Rattle.choice.specs.declared.Ucid.{Ucid}
 use Rattle.choice.specs.Best.{anyOf}
 use Rattle.choice.specs.Choose.{listsClient, fitsClient}

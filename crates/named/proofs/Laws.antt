@@ -21,7 +21,7 @@ use Rattle.elements.proofs.Laws.{headAt-starts, headAt-fits}
 use Rattle.table.specs.Table.{rulesOf, numbersOf}
 use Rattle.table.specs.declared.Rule.{Rule}
 use Rattle.table.specs.declared.Table.{Table}
-use Rattle.contents.specs.Rows.{Row, done, bad, item, rowWith, rowFrom, rowIn, rowOfHead, rowInside, typeAt, placesOf}
+use Rattle.children.specs.Rows.{Row, done, bad, item, rowWith, rowFrom, rowIn, rowOfHead, rowInside, typeAt, placesOf}
 use Rattle.named.specs.Named.{isListed, classifierNumbers, loneIn, loneOf, unanswered, namedPlace, placed, loneNumber}
 use Rattle.named.specs.declared.Found.{Found}
 use Rattle.named.specs.declared.Found.the-variants.{Nothing, Number}

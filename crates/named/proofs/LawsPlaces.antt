@@ -1,4 +1,4 @@
--- Laws of placesOf (specs/Rows.antt of the crate contents): the n-th place, counted from 0, by what stands first in the row.
+-- Laws of placesOf (specs/Rows.antt of the crate children): the n-th place, counted from 0, by what stands first in the row.
 --
 --   places-stop    no element there: no place          places-other    an element of another type: the rest of the row
 --   places-first   an element of this type: the first of the places     places-later   the later ones
@@ -11,8 +11,8 @@ use lib.ListN.{getD}
 use Rattle.elements.specs.Elements.{headAt}
 use Rattle.elements.specs.declared.Head.{Head}
 use Rattle.elements.specs.declared.Head.the-variants.{Value}
-use Rattle.contents.specs.Rows.{Row, rowIn, typeAt, placesOf}
-use Rattle.contents.proofs.Laws.{rowIn-stop, rowIn-item}
+use Rattle.children.specs.Rows.{Row, rowIn, typeAt, placesOf}
+use Rattle.children.proofs.Laws.{rowIn-stop, rowIn-item}
 use Rattle.named.proofs.Lists.{getD-later}
 
 module _ (msg : List ℕ) (kind at end n : ℕ) {h : Head} (e : h ≡ headAt msg at end) where

@@ -18,7 +18,7 @@ use lib.Dec.{eqb}
 use Rattle.table.specs.Table.{rulesOf, classifiersOf, numbersOf}
 use Rattle.table.specs.declared.Rule.{Rule}
 use Rattle.table.specs.declared.Table.{Table}
-use Rattle.contents.specs.Rows.{rowIn, rowInside, placesOf}
+use Rattle.children.specs.Rows.{rowIn, rowInside, placesOf}
 use Rattle.named.specs.declared.Found.{Found}
 use Rattle.named.specs.declared.Found.the-variants.{Nothing, Number}
 use Rattle.named.specs.declared.Lone.{Lone}

@@ -9,7 +9,7 @@ use table::Table;
 ghost use mathlib.Core.Path.{_≡_};
 ghost use Prim.Native.Nat.{_≤_};
 ghost use lib.ListN.{length, getD, take};
-ghost use Rattle.contents.specs.Rows.{rowIn, placesOf};
+ghost use Rattle.children.specs.Rows.{rowIn, placesOf};
 ghost use Rattle.table.specs.Table.{limitedTo, rulesOf};
 ghost use Rattle.named.specs.Named.{isAmong, classifierNumbers, loneOf, namedPlace, loneNumber};
 

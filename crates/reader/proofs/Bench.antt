@@ -17,12 +17,14 @@ use Rattle.table.specs.declared.Table.{Table}
 use Rattle.elements.specs.Elements.{headAt}
 use Rattle.elements.specs.Types.{knownTypes}
 use Rattle.elements.specs.Places.{childOf, under, placed, typeOf, parentIn, table, lineAt, placeIn, knownAt, typeUnder, missingIn, lacksMust}
-use Rattle.rows.specs.Tests.{secondCopy, wrongLength, noChannel, badValue, isFull, ownTests, isRow, rowEnd, emptyTally}
+use Rattle.element_tests.specs.Tests.{secondCopy, wrongLength, noChannel, badValue, isFull, ownTests}
+use Rattle.rows.specs.Tests.{isRow, rowEnd, emptyTally}
 use Rattle.rows.specs.Rows.{elementWith, rowStep, rowFrom as testedFrom, rowOf, elementOf, testedAt}
-use Rattle.contents.specs.Rows.{Row, done, bad, item, rowFrom, rowIn, rowInside, typeAt}
-use Rattle.contents.specs.Rules.{withClient, clientAt, withClientChild, clientsIn, withUcids, withNamed, withRuleChild, ruleAt}
-use Rattle.contents.specs.Classifiers.{withPartChild, withPart, withClassifierChild, classifierAt}
-use Rattle.contents.specs.Configurations.{emptyConfiguration, withTimers, withChannel, withConfigurationChild, configurationAt}
+use Rattle.children.specs.Rows.{Row, done, bad, item, rowFrom, rowIn, rowInside, typeAt}
+use Rattle.clients.specs.Clients.{withClient, clientAt, withClientChild, clientsIn}
+use Rattle.rules.specs.Rules.{withUcids, withNamed, withRuleChild, ruleAt}
+use Rattle.classifiers.specs.Classifiers.{withPartChild, withPart, withClassifierChild, classifierAt}
+use Rattle.configurations.specs.Configurations.{emptyConfiguration, withTimers, withChannel, withConfigurationChild, configurationAt}
 use Rattle.named.specs.Named.{unanswered, loneNumber}
 use Rattle.named.specs.declared.Found.the-variants.{Nothing}
 use Rattle.reader.specs.Take.{withRule, withClassifier, withElement, isTaken}

@@ -12,7 +12,7 @@ use Rattle.table.specs.Table.{rulesOf, classifiersOf, emptyTable}
 use Rattle.table.specs.declared.Table.{Table}
 use Rattle.elements.specs.Elements.{headAt}
 use Rattle.rows.specs.Rows.{testedAt}
-use Rattle.contents.specs.Rows.{rowFrom, rowIn}
+use Rattle.children.specs.Rows.{rowFrom, rowIn}
 use Rattle.named.specs.Named.{unanswered, loneNumber}
 use Rattle.reader.specs.Read.{numberOf, readTable}
 use Rattle.reader.specs.declared.Reading.{Reading}

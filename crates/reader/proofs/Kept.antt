@@ -15,7 +15,7 @@ use Rattle.table.specs.Table.{limitedTo, rulesOf, classifiersOf, emptyTable}
 use Rattle.table.specs.declared.Rule.{Rule}
 use Rattle.table.specs.declared.Classifier.{Classifier}
 use Rattle.table.specs.declared.Table.{Table}
-use Rattle.contents.specs.declared.Configuration.{Configuration}
+use Rattle.configurations.specs.declared.Configuration.{Configuration}
 use Rattle.named.specs.Named.{classifierNumbers}
 use Rattle.reader.specs.Take.{withRule, withClassifier, withConfiguration, ruleNumbers}
 use Rattle.reader.proofs.Lists.{front-more}

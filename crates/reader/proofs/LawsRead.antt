@@ -20,12 +20,12 @@ use Rattle.elements.proofs.Laws.{headAt-end, headAt-ends, headAt-starts, headAt
 use Rattle.table.specs.declared.Rule.{Rule}
 use Rattle.table.specs.declared.Classifier.{Classifier}
 use Rattle.table.specs.declared.Table.{Table}
-use Rattle.contents.specs.Rows.{Row, rowIn, typeAt}
-use Rattle.contents.specs.Rules.{ruleAt}
-use Rattle.contents.specs.Classifiers.{classifierAt}
-use Rattle.contents.specs.Configurations.{configurationAt}
-use Rattle.contents.specs.declared.Configuration.{Configuration}
-use Rattle.contents.proofs.Laws.{rowIn-rule}
+use Rattle.children.specs.Rows.{Row, rowIn, typeAt}
+use Rattle.rules.specs.Rules.{ruleAt}
+use Rattle.classifiers.specs.Classifiers.{classifierAt}
+use Rattle.configurations.specs.Configurations.{configurationAt}
+use Rattle.configurations.specs.declared.Configuration.{Configuration}
+use Rattle.children.proofs.Laws.{rowIn-rule}
 use Rattle.rows.specs.Rows.{testedAt}
 use Rattle.rows.specs.declared.Tally.{Tally}
 use Rattle.rows.specs.declared.Tested.{Tested}

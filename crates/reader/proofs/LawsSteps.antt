@@ -21,7 +21,7 @@ use lib.ListN.{length, take, set, replicate}
 use lib.Dec.{eqb}
 use Rattle.table.specs.Table.{emptyTable}
 use Rattle.table.specs.declared.Table.{Table}
-use Rattle.contents.specs.Rows.{rowIn, typeAt}
+use Rattle.children.specs.Rows.{rowIn, typeAt}
 use Rattle.rows.specs.Rows.{testedAt}
 use Rattle.rows.specs.declared.Tally.{Tally}
 use Rattle.rows.specs.declared.Tested.{Tested}

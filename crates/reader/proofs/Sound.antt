@@ -19,11 +19,11 @@ use Rattle.table.specs.Table.{limitedTo, rulesOf, classifiersOf, emptyTable}
 use Rattle.table.specs.declared.Rule.{Rule}
 use Rattle.table.specs.declared.Classifier.{Classifier}
 use Rattle.table.specs.declared.Table.{Table}
-use Rattle.contents.specs.Rows.{typeAt}
-use Rattle.contents.specs.Rules.{ruleAt}
-use Rattle.contents.specs.Classifiers.{classifierAt}
-use Rattle.contents.specs.Configurations.{configurationAt}
-use Rattle.contents.proofs.LawsConfigurations.{channels-room}
+use Rattle.children.specs.Rows.{typeAt}
+use Rattle.rules.specs.Rules.{ruleAt}
+use Rattle.classifiers.specs.Classifiers.{classifierAt}
+use Rattle.configurations.specs.Configurations.{configurationAt}
+use Rattle.configurations.proofs.Laws.{channels-room}
 use Rattle.named.specs.Named.{isListed, classifierNumbers}
 use Rattle.named.proofs.Lists.{map-append}
 use Rattle.named.proofs.LawsListed.{listed-append}

@@ -20,7 +20,7 @@ use lib.ListN.{length, take, set}
 use lib.Dec.{eqb}
 use Rattle.table.specs.Table.{emptyTable}
 use Rattle.table.specs.declared.Table.{Table}
-use Rattle.contents.specs.Rows.{rowIn, typeAt}
+use Rattle.children.specs.Rows.{rowIn, typeAt}
 use Rattle.rows.specs.Tests.{emptyTally}
 use Rattle.rows.specs.declared.Tested.{Tested}
 use Rattle.named.specs.Named.{isListed, loneNumber}

@@ -145,7 +145,7 @@ fn take_up(message: &[u8]) -> Taken
         let kind = kind_of(message, here, tested.bad);
         match kind {
             50 => {
-                let rule = contents::rule_at(message, here);
+                let rule = rules::rule_at(message, here);
                 let place = place_for(&mut ruleids, table.rulecount, rule.number as u16);
                 tested = judged(tested, here, place);
                 if place < FULL {
@@ -154,7 +154,7 @@ fn take_up(message: &[u8]) -> Taken
                 }
             }
             23 => {
-                let classifier = contents::classifier_at(message, here);
+                let classifier = classifiers::classifier_at(message, here);
                 let place = place_for(&mut carried, table.classifiercount, classifier.number);
                 tested = judged(tested, here, place);
                 if place < FULL {
@@ -163,7 +163,7 @@ fn take_up(message: &[u8]) -> Taken
                 }
             }
             51 => {
-                let configuration = contents::configuration_at(message, here);
+                let configuration = configurations::configuration_at(message, here);
                 let channels = configuration.channels;
                 let timers = configuration.timers;
                 table.channels = channels;

@@ -8,7 +8,7 @@ use Prim.Native.Nat.{ℕ, _+_, _<_}
 use native.Mathlib.Omega.{arith}
 use borrow.Author.Tests.{leb-false, eqb-true, not-false}
 use lib.Dec.{eqb, leb}
-use Rattle.rows.specs.Tests.{secondCopy, isFull}
+use Rattle.element_tests.specs.Tests.{secondCopy, isFull}
 
 pub count-fits : (repeats : Bool) (room count len : ℕ) → secondCopy repeats count ≡ false → isFull repeats room count len ≡ false → room < 256 → count + 1 < 256
 unfolding secondCopy isFull

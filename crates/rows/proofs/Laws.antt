@@ -23,10 +23,11 @@ use Rattle.elements.proofs.Laws.{headAt-end, headAt-ends, headAt-starts, headAt
 use Rattle.elements.specs.declared.Head.{Head}
 use Rattle.elements.specs.declared.Head.the-variants.{End, Refused, Value}
 use Rattle.elements.specs.declared.types.Known.{Known}
-use Rattle.rows.specs.Tests.{stepped, secondCopy, wrongLength, badValue, isFull, ownTests, isRow, rowEnd, noneCounted}
+use Rattle.element_tests.specs.Tests.{stepped, secondCopy, wrongLength, badValue, isFull, ownTests}
+use Rattle.rows.specs.Tests.{isRow, rowEnd, noneCounted}
 use Rattle.rows.specs.Rows.{elementWith, noted, goOn, onHead, rowStep, rowFrom, rowOf, elementOf, tested, testedAt}
 use Rattle.rows.specs.declared.Tally.{Tally}
-use Rattle.rows.specs.declared.Step.{Step}
+use Rattle.element_tests.specs.declared.Step.{Step}
 use Rattle.rows.specs.declared.Fault.{Fault}
 use Rattle.rows.specs.declared.Tested.{Tested}
 

@@ -13,7 +13,7 @@ use Rattle.elements.specs.declared.Head.{Head}
 use Rattle.elements.specs.declared.Head.the-variants.{End, Refused, Value}
 use Rattle.rows.specs.Tests.{rowEnd, noneCounted}
 use Rattle.rows.specs.Rows.{elementWith, noted, goOn, onHead, rowStep, rowFrom, rowOf}
-use Rattle.rows.specs.declared.Step.{Step}
+use Rattle.element_tests.specs.declared.Step.{Step}
 use Rattle.rows.specs.declared.Fault.{Fault}
 
 -- what a step does with the value that a head announces

@@ -11,11 +11,12 @@ use Rattle.elements.specs.Places.{typeUnder}
 use Rattle.elements.specs.declared.Head.{Head}
 use Rattle.elements.specs.declared.Head.the-variants.{End, Refused, Value}
 use Rattle.elements.specs.declared.types.Known.{Known}
-use Rattle.rows.specs.Tests.{stepped, ownTests, isRow, rowEnd, noneCounted}
+use Rattle.element_tests.specs.Tests.{stepped, ownTests}
+use Rattle.rows.specs.Tests.{isRow, rowEnd, noneCounted}
 use Rattle.rows.specs.Rows.{elementWith, elementOf, noted, rowStep, rowOf, testedAt}
 use Rattle.rows.proofs.Rule.{row-rule}
 use Rattle.rows.specs.declared.Tally.{Tally}
-use Rattle.rows.specs.declared.Step.{Step}
+use Rattle.element_tests.specs.declared.Step.{Step}
 use Rattle.rows.specs.declared.Fault.{Fault}
 
 module _ (msg : List ℕ) (parent own at end : ℕ) (t : List ℕ) {h : Head} (e : h ≡ headAt msg at end) where

@@ -16,9 +16,10 @@ use Rattle.elements.specs.Elements.{headAt}
 use Rattle.elements.specs.Places.{typeUnder}
 use Rattle.elements.specs.declared.Head.{Head}
 use Rattle.elements.specs.declared.Head.the-variants.{End, Refused, Value}
-use Rattle.rows.specs.Tests.{stepped, ownTests, isRow, rowEnd, noneCounted}
+use Rattle.element_tests.specs.Tests.{stepped, ownTests}
+use Rattle.rows.specs.Tests.{isRow, rowEnd, noneCounted}
 use Rattle.rows.specs.declared.Tally.{Tally}
-use Rattle.rows.specs.declared.Step.{Step}
+use Rattle.element_tests.specs.declared.Step.{Step}
 use Rattle.rows.specs.declared.Fault.{Fault}
 use Rattle.rows.specs.declared.Tested.{Tested}
 

@@ -23,7 +23,7 @@ use Rattle.elements.specs.declared.types.Values.{Values}
 use Rattle.elements.specs.declared.types.Values.the-variants.{Any, NotZero, Channel}
 use Rattle.elements.specs.declared.types.Known.{Known}
 use Rattle.rows.specs.declared.Tally.{Tally}
-use Rattle.rows.specs.declared.Step.{Step}
+use Rattle.element_tests.specs.declared.Step.{Step}
 use Rattle.rows.specs.declared.Fault.{Fault}
 
 -- what an element comes to: a refusal number, or 0; where; and the count of one list of its row

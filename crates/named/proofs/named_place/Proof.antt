@@ -6,8 +6,8 @@ use mathlib.Core.Path.{_≡_, refl, sym, ap, _∙_}
 use native.Mathlib.Omega.{arith}
 use mathlib.Core.Logic.{⊎-elim}
 use lib.ListN.{getD}
-use Rattle.contents.specs.Rows.{placesOf}
-use Rattle.contents.proofs.Laws.{item-fits, rowInside-done, rowInside-row}
+use Rattle.children.specs.Rows.{placesOf}
+use Rattle.children.proofs.Laws.{item-fits, rowInside-done, rowInside-row}
 use Rattle.named.specs.Named.{namedPlace}
 use Rattle.named.proofs.named_place.Statement.{statement}
 use Rattle.named.proofs.named_place.Tie as tie

@@ -7,8 +7,8 @@ use native.Mathlib.Omega.{arith}
 use native.Mathlib.Nat.{sub-zero}
 use mathlib.Core.Logic.{⊎-elim}
 use lib.ListN.{getD}
-use Rattle.contents.specs.Rows.{rowIn, placesOf}
-use Rattle.contents.proofs.Laws.{item-fits}
+use Rattle.children.specs.Rows.{rowIn, placesOf}
+use Rattle.children.proofs.Laws.{item-fits}
 use Rattle.named.proofs.LawsPlaces.{places-stop, places-other, places-first, places-later}
 use Rattle.named.proofs.nth_place.Statement.{statement}
 use Rattle.named.proofs.nth_place.Tie as tie

@@ -2,7 +2,7 @@
 -- Trusts: nothing.
 use borrow.Author.Needs.{needs}
 use borrow.Author.Tests.{eq-eqb, ne-eqb, lt-ltb, le-ltb}
-use Rattle.rows.specs.Tests.{badValue}
+use Rattle.element_tests.specs.Tests.{badValue}
 use Rattle.rows.proofs.bad_value.Statement.{statement}
 use Rattle.rows.proofs.bad_value.Tie as tie
 

@@ -1,7 +1,7 @@
 -- `rows::is_full` gives `isFull`: elements are counted where the type repeats, else bytes.
 -- Trusts: nothing.
 use borrow.Author.Needs.{needs}
-use Rattle.rows.specs.Tests.{isFull}
+use Rattle.element_tests.specs.Tests.{isFull}
 use Rattle.rows.proofs.is_full.Statement.{statement}
 use Rattle.rows.proofs.is_full.Tie as tie
 

@@ -2,7 +2,7 @@
 -- Trusts: nothing.
 use borrow.Author.Needs.{needs}
 use borrow.Author.Tests.{eq-eqb, ne-eqb, lt-ltb, le-ltb}
-use Rattle.rows.specs.Tests.{noChannel}
+use Rattle.element_tests.specs.Tests.{noChannel}
 use Rattle.rows.proofs.no_channel.Statement.{statement}
 use Rattle.rows.proofs.no_channel.Tie as tie
 

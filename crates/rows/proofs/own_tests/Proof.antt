@@ -3,8 +3,8 @@
 use borrow.Author.Needs.{needs}
 use mathlib.Core.Path.{_≡_, refl, sym, _∙_}
 use native.Mathlib.Omega.{arith}
-use Rattle.rows.proofs.Counts.{count-fits}
-use Rattle.rows.specs.Tests.{ownTests}
+use Rattle.element_tests.proofs.Counts.{count-fits}
+use Rattle.element_tests.specs.Tests.{ownTests}
 use Rattle.rows.proofs.own_tests.Statement.{statement}
 use Rattle.rows.proofs.own_tests.Tie as tie
 

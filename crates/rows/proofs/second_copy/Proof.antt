@@ -1,7 +1,7 @@
 -- `rows::second_copy` gives `secondCopy`, on each side of its first test.
 -- Trusts: nothing.
 use borrow.Author.Needs.{needs}
-use Rattle.rows.specs.Tests.{secondCopy}
+use Rattle.element_tests.specs.Tests.{secondCopy}
 use Rattle.rows.proofs.second_copy.Statement.{statement}
 use Rattle.rows.proofs.second_copy.Tie as tie
 

@@ -2,7 +2,7 @@
 -- Trusts: nothing.
 use borrow.Author.Needs.{needs}
 use borrow.Author.Tests.{eq-eqb, ne-eqb, lt-ltb, le-ltb}
-use Rattle.rows.specs.Tests.{wrongLength}
+use Rattle.element_tests.specs.Tests.{wrongLength}
 use Rattle.rows.proofs.wrong_length.Statement.{statement}
 use Rattle.rows.proofs.wrong_length.Tie as tie
 
