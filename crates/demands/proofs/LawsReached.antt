@@ -25,10 +25,11 @@ use Rattle.rows.specs.Rows.{testedAt}
 use Rattle.rows.specs.declared.Tally.{Tally}
 use Rattle.rows.specs.declared.Tested.{Tested}
 use Rattle.rows.proofs.Laws.{testedAt-placed}
-use Rattle.reader.specs.Take.{withElement, isTaken, unanswered, namedPlace}
+use Rattle.named.specs.Named.{unanswered, namedPlace, placed, loneNumber}
+use Rattle.named.specs.declared.Found.{Found}
+use Rattle.named.specs.declared.Found.the-variants.{Nothing, Number}
+use Rattle.reader.specs.Take.{withElement, isTaken}
 use Rattle.reader.specs.Read.{refusal, readLone, readRow, readTable}
-use Rattle.reader.specs.declared.Lone.{Lone}
-use Rattle.reader.specs.declared.Lone.the-variants.{Answered, Number}
 use Rattle.reader.specs.declared.Verdict.the-variants.{Refused as Refuses}
 use Rattle.demands.proofs.LawsRoom.{named-room, classifier-room}
 use Rattle.demands.proofs.LawsStand.{namedPlaces}
@@ -43,14 +44,18 @@ pub record Reached (msg : List ℕ) (off : ℕ) (row : Row) (counts : List ℕ) 
   pub classifiers : length counts ≡ 8 → getD counts 0 0 ≤ 32 → getD counts 0 0 + length (placesOf msg 23 row) ≤ 32
 
 module _ (given : Table) (msg : List ℕ) (off : ℕ) where
-  lone-reached : (t : Table) (l : Lone) → unanswered t ≡ l → readLone given msg t l .verdict ≡ Refuses 15 off → (i : ℕ) × (j : ℕ) × (unanswered t ≡ Number i j) × (off ≡ namedPlace msg i j)
-  lone-reached t Answered e x = absurd (let z : _≡_ {A = ℕ} 0 1 = cc in omega arith)
-  lone-reached t (Number i j) e x = let o : off ≡ namedPlace msg i j = cc in (i, j, e, o)
+  lone-reached : (t : Table) → readLone given t (loneNumber msg t) .verdict ≡ Refuses 15 off → (i : ℕ) × (j : ℕ) × (unanswered t ≡ Number i j) × (off ≡ namedPlace msg i j)
+  unfolding loneNumber
+  lone-reached t = on (unanswered t) refl
+    where
+      on : (f : Found) → unanswered t ≡ f → readLone given t (placed msg f) .verdict ≡ Refuses 15 off → (i : ℕ) × (j : ℕ) × (unanswered t ≡ Number i j) × (off ≡ namedPlace msg i j)
+      on Nothing e x = absurd (let z : _≡_ {A = ℕ} 0 1 = cc in omega arith)
+      on (Number i j) e x = let o : off ≡ namedPlace msg i j = cc in (i, j, e, o)
 
   row-reached : (left at : ℕ) (tally : Tally) (t : Table) → readRow given msg (rowFrom left msg at (length msg)) tally t .verdict ≡ Refuses 15 off → Reached msg off (rowFrom left msg at (length msg)) (tally .counts) t
   unfolding rowFrom
   row-reached zero at tally t x =
-      let r = lone-reached t (unanswered t) refl x in
+      let r = lone-reached t x in
       record { i = r .0; j = r .1; found = r .2; place = r .3; room = λ p m. absurd (List·Memᴰ·not-nil m); classifiers = λ a b. omega arith }
   row-reached (suc left) at tally t x = on (headAt msg at (length msg)) refl x (λ len. row-reached left (at + 2 + len))
     where
@@ -58,7 +63,7 @@ module _ (given : Table) (msg : List ℕ) (off : ℕ) where
           → ((len : ℕ) (y : Tally) (u : Table) → readRow given msg (rowFrom left msg (at + 2 + len) (length msg)) y u .verdict ≡ Refuses 15 off → Reached msg off (rowFrom left msg (at + 2 + len) (length msg)) (y .counts) u)
           → Reached msg off (rowWith (λ next. rowFrom left msg next (length msg)) at h) (tally .counts) t
       on End e x rest =
-          let r = lone-reached t (unanswered t) refl x in
+          let r = lone-reached t x in
           record { i = r .0; j = r .1; found = r .2; place = r .3; room = λ p m. absurd (List·Memᴰ·not-nil m); classifiers = λ a b. omega arith }
       on (Refused n) e x rest = absurd (let s = headAt-starts msg at (length msg) e in let z : n ≡ 15 = cc in omega (arith, s .1))
       on (Value len) e x rest = turn (eqb (u .bad) 0) (isTaken msg at t) refl x

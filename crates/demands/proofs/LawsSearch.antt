@@ -1,4 +1,4 @@
--- What the search for a lone number finds (specs/Take.antt of the crate reader, `unanswered`).
+-- What the search for a lone number finds (specs/Named.antt of the crate named, `unanswered`).
 --
 --   FirstNumber, FirstLone   of a list of numbers, and of the numbers of a list of rules, this one is the first that is not carried
 --   unanswered-first         Number i j: number j of rule i is there and no classifier of the table carries it, and one carries every
@@ -14,9 +14,9 @@ use lib.ListN.{length, getD, take}
 use Rattle.table.specs.Table.{emptyRule, rulesOf, numbersOf}
 use Rattle.table.specs.declared.Rule.{Rule}
 use Rattle.table.specs.declared.Table.{Table}
-use Rattle.reader.specs.Take.{isListed, classifierNumbers, loneIn, loneOf, unanswered}
-use Rattle.reader.specs.declared.Lone.{Lone}
-use Rattle.reader.specs.declared.Lone.the-variants.{Number}
+use Rattle.named.specs.Named.{isListed, classifierNumbers, loneIn, loneOf, unanswered}
+use Rattle.named.specs.declared.Found.{Found}
+use Rattle.named.specs.declared.Found.the-variants.{Number}
 
 -- of the numbers `ns` the j-th is the first that is not carried
 pub record FirstNumber (carried ns : List ℕ) (j : ℕ) : Type 0 where
@@ -35,7 +35,7 @@ front : {A : Type 0} {x : A} {xs : List A} (P : A → Type 0) → P x → ((y : 
 front P h g y m = ⊎-elim (λ z. rw z h) (λ k. g y k) (List·Memᴰ·cases-cons m)
 
 module _ (carried : List ℕ) (k l : ℕ) where
-  lone-in : (i j : ℕ) (ns : List ℕ) (later : Lone) → loneIn carried i j ns later ≡ Number k l
+  lone-in : (i j : ℕ) (ns : List ℕ) (later : Found) → loneIn carried i j ns later ≡ Number k l
       → ((k ≡ i) × ((n : ℕ) × (l ≡ j + n) × FirstNumber carried ns n)) ⊎ ((later ≡ Number k l) × ((n : ℕ) → List·Memᴰ n ns → isListed n carried ≡ true))
   lone-in i j [] later e = inr (e, λ n m. absurd (List·Memᴰ·not-nil m))
   lone-in i j (x ∷ ns) later e = on (isListed x carried) refl e (λ f. lone-in i (j + 1) ns later f)

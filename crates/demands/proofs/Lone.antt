@@ -32,9 +32,10 @@ use Rattle.element_tests.specs.Tests.{secondCopy, wrongLength, noChannel, badVa
 use Rattle.rows.specs.Tests.{isRow, rowEnd, noneCounted, emptyTally}
 use Rattle.rows.specs.Rows as rows
 use Rattle.rows.specs.Rows.{elementWith, rowStep, rowOf, elementOf, testedAt}
-use Rattle.reader.specs.Take.{withRule, withElement, tableOf, isListed, classifierNumbers, isTaken, unanswered, namedPlace}
+use Rattle.named.specs.Named.{isListed, classifierNumbers, unanswered, namedPlace, loneNumber}
+use Rattle.named.specs.declared.Found.the-variants.{Number}
+use Rattle.reader.specs.Take.{withRule, withElement, tableOf, isTaken}
 use Rattle.reader.specs.Read.{readTable}
-use Rattle.reader.specs.declared.Lone.the-variants.{Number}
 use Rattle.reader.specs.declared.Verdict.the-variants.{Refused}
 use Rattle.demands.proofs.LawsOrder.{rulesOf-tableOf, classifiersOf-tableOf}
 use Rattle.demands.proofs.LawsAscend.{Apart, places-apart}
@@ -135,5 +136,5 @@ unfolding namedPlace headAt rowFrom rowIn rowInside
 place-lonely = refl
 
 pub lonely-refused : (given : Table) → readTable given lonely .verdict ≡ Refused 15 19
-unfolding readTable
+unfolding readTable loneNumber
 lonely-refused given = rw (row-lonely, tested-lonely, free-lonely, lone-lonely, place-lonely) refl

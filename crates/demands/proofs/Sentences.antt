@@ -29,9 +29,10 @@ use Rattle.rules.specs.Rules.{withRuleChild, ruleAt}
 use Rattle.choice.specs.declared.Ucid.{Ucid}
 use Rattle.choice.specs.Best.{anyOf}
 use Rattle.choice.specs.Choose.{listsClient, fitsClient}
-use Rattle.reader.specs.Take.{withRule, withElement, isTaken, unanswered}
+use Rattle.named.specs.Named.{unanswered, loneNumber}
+use Rattle.named.specs.declared.Found.the-variants.{Nothing}
+use Rattle.reader.specs.Take.{withRule, withElement, isTaken}
 use Rattle.reader.specs.Read.{readTable}
-use Rattle.reader.specs.declared.Lone.the-variants.{Answered}
 use Rattle.reader.specs.declared.Reading.{Reading}
 use Rattle.reader.specs.declared.Verdict.the-variants.{Accepted}
 use Rattle.reader.proofs.Laws.{readTable-verdict, readTable-table}
@@ -79,10 +80,10 @@ with-nobody : withElement (0x32 ∷ 16 ∷ 1 ∷ 1 ∷ 5 ∷ 4 ∷ 3 ∷ 0x63 �
 unfolding numberAt pasted headAt rowFrom rowIn rowInside withClientChild clientsIn withRuleChild ruleAt withRule withElement
 with-nobody = refl
 
-answered-nobody : unanswered nobody ≡ Answered
+answered-nobody : unanswered nobody ≡ Nothing
 unfolding unanswered rulesOf numbersOf classifiersOf
 answered-nobody = refl
 
 pub emptyIds-accepted : (given : Table) → readTable given (0x32 ∷ 16 ∷ 1 ∷ 1 ∷ 5 ∷ 4 ∷ 3 ∷ 0x63 ∷ 1 ∷ 0 ∷ 5 ∷ 6 ∷ 1 ∷ 0 ∷ 0x5E ∷ 5 ∷ 5 ∷ 5 ∷ []) ≡ accepted nobody
-unfolding readTable
+unfolding readTable loneNumber
 emptyIds-accepted given = rw (row-nobody, tested-nobody, free-nobody, with-nobody, answered-nobody) refl

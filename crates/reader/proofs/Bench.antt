@@ -25,14 +25,15 @@ use Rattle.clients.specs.Clients.{withClient, clientAt, withClientChild, client
 use Rattle.rules.specs.Rules.{withUcids, withNamed, withRuleChild, ruleAt}
 use Rattle.classifiers.specs.Classifiers.{withPartChild, withPart, withClassifierChild, classifierAt}
 use Rattle.configurations.specs.Configurations.{emptyConfiguration, withTimers, withChannel, withConfigurationChild, configurationAt}
-use Rattle.reader.specs.Take.{withRule, withClassifier, withElement, isTaken, unanswered, namedPlace}
+use Rattle.named.specs.Named.{unanswered, loneNumber}
+use Rattle.named.specs.declared.Found.the-variants.{Nothing}
+use Rattle.reader.specs.Take.{withRule, withClassifier, withElement, isTaken}
 use Rattle.reader.specs.Read.{refusal, readRow, readTable}
 use Rattle.rows.specs.declared.Tally.{Tally}
 use Rattle.rows.specs.declared.Tested.{Tested}
 use Rattle.reader.specs.declared.Reading.{Reading}
 use Rattle.reader.specs.declared.Verdict.the-variants.{Accepted}
-use Rattle.reader.specs.declared.Lone.the-variants.{Answered}
-use Rattle.reader.proofs.LawsRead.{isTaken-rule, isTaken-other, withElement-rule, withElement-configuration, withElement-other}
+use Rattle.reader.proofs.LawsRead.{isTaken-rule, isTaken-configuration, isTaken-other, withElement-rule, withElement-configuration, withElement-other}
 
 -- message M of the listing
 abbrev pub M : List ℕ
@@ -219,18 +220,16 @@ M-free-2 : isTaken M 22 tableOne ≡ false
 unfolding rulesOf
 M-free-2 = sym (isTaken-rule M 22 tableOne refl (sym M-rule-2) refl)
 
-free-51 : (msg : List ℕ) (at : ℕ) (t : Table) → getD msg at 0 ≡ 51 → isTaken msg at t ≡ false
-free-51 msg at t e = isTaken-other msg at t (λ z. omega (arith, e)) (λ z. omega (arith, e))
-
-answered : (t : Table) → t .rulecount ≡ 0 → unanswered t ≡ Answered
+answered : (t : Table) → t .rulecount ≡ 0 → unanswered t ≡ Nothing
 unfolding unanswered rulesOf
 answered t e = rw e
 
-M-answered : unanswered tableM ≡ Answered
+M-answered : unanswered tableM ≡ Nothing
 unfolding unanswered rulesOf classifiersOf numbersOf
 M-answered = refl
 
-ends : (given : Table) (msg : List ℕ) (tally : Tally) (t : Table) → unanswered t ≡ Answered → readRow given msg done tally t ≡ accepted t
+ends : (given : Table) (msg : List ℕ) (tally : Tally) (t : Table) → unanswered t ≡ Nothing → readRow given msg done tally t ≡ accepted t
+unfolding loneNumber
 ends given msg tally t e = rw e
 
 next : {x y : Reading} {xs ys : List Reading} → x ≡ y → xs ≡ ys → x ∷ xs ≡ y ∷ ys
@@ -244,12 +243,12 @@ starred given =
     (next (whole given (50 ∷ 0 ∷ []) (item 0 0 done) refl c-row ∙ stops given (50 ∷ 0 ∷ []) 0 0 done emptyTally emptyTable c-tested refl)
     (next
     (whole given (51 ∷ 0 ∷ 51 ∷ 0 ∷ []) (item 0 0 (item 2 0 done)) refl d-row
-    ∙ goes given (51 ∷ 0 ∷ 51 ∷ 0 ∷ []) 0 0 (item 2 0 done) emptyTally emptyTable d-tested-1 refl (free-51 (51 ∷ 0 ∷ 51 ∷ 0 ∷ []) 0 emptyTable refl) (sym (withElement-configuration (51 ∷ 0 ∷ 51 ∷ 0 ∷ []) 0 emptyTable refl (sym d-configured)))
+    ∙ goes given (51 ∷ 0 ∷ 51 ∷ 0 ∷ []) 0 0 (item 2 0 done) emptyTally emptyTable d-tested-1 refl (isTaken-configuration (51 ∷ 0 ∷ 51 ∷ 0 ∷ []) 0 emptyTable refl) (sym (withElement-configuration (51 ∷ 0 ∷ 51 ∷ 0 ∷ []) 0 emptyTable refl (sym d-configured)))
     ∙ stops given (51 ∷ 0 ∷ 51 ∷ 0 ∷ []) 2 0 done (counted 0 1) emptyTable d-tested-2 refl)
     (next (whole given (51 ∷ 4 ∷ 2 ∷ 2 ∷ 0 ∷ 0 ∷ []) (item 0 4 done) refl f-row ∙ stops given (51 ∷ 4 ∷ 2 ∷ 2 ∷ 0 ∷ 0 ∷ []) 0 4 done emptyTally emptyTable f-tested refl)
     (next
     (whole given (51 ∷ 4 ∷ 4 ∷ 2 ∷ 0 ∷ 0 ∷ []) (item 0 4 done) refl g-row
-    ∙ goes given (51 ∷ 4 ∷ 4 ∷ 2 ∷ 0 ∷ 0 ∷ []) 0 4 done emptyTally emptyTable g-tested refl (free-51 (51 ∷ 4 ∷ 4 ∷ 2 ∷ 0 ∷ 0 ∷ []) 0 emptyTable refl) (sym (withElement-configuration (51 ∷ 4 ∷ 4 ∷ 2 ∷ 0 ∷ 0 ∷ []) 0 emptyTable refl (sym g-configured)))
+    ∙ goes given (51 ∷ 4 ∷ 4 ∷ 2 ∷ 0 ∷ 0 ∷ []) 0 4 done emptyTally emptyTable g-tested refl (isTaken-configuration (51 ∷ 4 ∷ 4 ∷ 2 ∷ 0 ∷ 0 ∷ []) 0 emptyTable refl) (sym (withElement-configuration (51 ∷ 4 ∷ 4 ∷ 2 ∷ 0 ∷ 0 ∷ []) 0 emptyTable refl (sym g-configured)))
     ∙ ends given (51 ∷ 4 ∷ 4 ∷ 2 ∷ 0 ∷ 0 ∷ []) (counted 0 1) (withTdsg3 0) (answered (withTdsg3 0) refl))
     (next
     (whole given (99 ∷ 1 ∷ 0 ∷ []) (item 0 1 done) refl h-row
@@ -259,7 +258,7 @@ starred given =
     (whole given M (item 0 20 (item 22 20 (item 44 6 done))) refl M-row
     ∙ goes given M 0 20 (item 22 20 (item 44 6 done)) emptyTally emptyTable M-tested-1 refl M-free-1 M-taken-1
     ∙ goes given M 22 20 (item 44 6 done) (counted 1 0) tableOne M-tested-2 refl M-free-2 M-taken-2
-    ∙ goes given M 44 6 done (counted 2 0) tableTwo M-tested-3 refl (free-51 M 44 tableTwo refl) (sym (withElement-configuration M 44 tableTwo refl (sym M-configured)))
+    ∙ goes given M 44 6 done (counted 2 0) tableTwo M-tested-3 refl (isTaken-configuration M 44 tableTwo refl) (sym (withElement-configuration M 44 tableTwo refl (sym M-configured)))
     ∙ ends given M (counted 2 1) tableM M-answered)
     refl))))))))
   where

@@ -13,7 +13,7 @@ use Rattle.table.specs.declared.Table.{Table}
 use Rattle.elements.specs.Elements.{headAt}
 use Rattle.rows.specs.Rows.{testedAt}
 use Rattle.children.specs.Rows.{rowFrom, rowIn}
-use Rattle.reader.specs.Take.{unanswered}
+use Rattle.named.specs.Named.{unanswered, loneNumber}
 use Rattle.reader.specs.Read.{numberOf, readTable}
 use Rattle.reader.specs.declared.Reading.{Reading}
 use Rattle.reader.specs.declared.Verdict.{Verdict}
@@ -26,7 +26,7 @@ other =
 
 module _ (read : Table → List ℕ → Reading) (promise : (given : Table) (msg : List ℕ) → read given msg ≡ readTable given msg) where
   pub no-refuse-all : ((given : Table) (msg : List ℕ) → numberOf (read given msg .verdict) ≡ 0 → ⊥) → ⊥
-  unfolding rulesOf headAt rowFrom rowIn unanswered readTable
+  unfolding rulesOf headAt rowFrom rowIn unanswered loneNumber readTable
   no-refuse-all all = all emptyTable [] (ap (λ (r : Reading). numberOf (r .verdict)) (promise emptyTable []))
 
   pub no-accept-all : ((given : Table) (msg : List ℕ) → numberOf (read given msg .verdict) ≡ 0) → ⊥
@@ -36,7 +36,7 @@ module _ (read : Table → List ℕ → Reading) (promise : (given : Table) (msg
       omega arith
 
   pub no-given-kept : ((given : Table) (msg : List ℕ) → read given msg .table .rulecount ≡ given .rulecount) → ⊥
-  unfolding rulesOf headAt rowFrom rowIn unanswered readTable
+  unfolding rulesOf headAt rowFrom rowIn unanswered loneNumber readTable
   no-given-kept all =
       let z : _≡_ {A = ℕ} 0 1 = sym (ap (λ (r : Reading). r .table .rulecount) (promise other [])) ∙ all other [] in
       omega arith

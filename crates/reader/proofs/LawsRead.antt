@@ -3,8 +3,8 @@
 --   next-fits, next-less                   an element that is fine: the place after it lies further on in the message
 --   read-refused, read-taken, read-goes    6 to 13; 14; the element is taken up and the row goes on
 --   read-ends                              at the end of the message: 15 is left
---   isTaken-rule, -classifier, -other      whether the number at `at` is among those kept
---   withElement-rule, -classifier, -configuration, -other, and -rulefull, -classifierfull    what the element leaves
+--   isTaken-rule, -classifier, -configuration, -other      whether the number at `at` is among those kept
+--   withElement-rule, -classifier, -configuration, -other    what the element leaves
 -- Trusts: nothing.
 use Prim.Native.Nat.{ℕ, _+_, _-_, _≤_, _<_, min}
 use mathlib.Core.Path.{_≡_, refl, sym, ap, _∙_}
@@ -29,7 +29,8 @@ use Rattle.children.proofs.Laws.{rowIn-rule}
 use Rattle.rows.specs.Rows.{testedAt}
 use Rattle.rows.specs.declared.Tally.{Tally}
 use Rattle.rows.specs.declared.Tested.{Tested}
-use Rattle.reader.specs.Take.{withRule, withClassifier, withConfiguration, withElement, isListed, ruleNumbers, classifierNumbers, isTaken, unanswered}
+use Rattle.named.specs.Named.{isListed, classifierNumbers, loneNumber}
+use Rattle.reader.specs.Take.{withRule, withClassifier, withConfiguration, withElement, ruleNumbers, isTaken}
 use Rattle.reader.specs.Read.{refusal, readLone, readRow}
 
 module _ (msg : List ℕ) (at : ℕ) (tally : Tally) {s : Tested} (e : s ≡ testedAt msg at tally) where
@@ -83,7 +84,7 @@ module _ (msg : List ℕ) (at : ℕ) (tally : Tally) {s : Tested} (e : s ≡ tes
             on (Value len) b = rw (rowIn-rule msg at (length msg), b, ← e, eq-eqb (s .bad) 0 fine, free, on-item b, w)
 
 -- the end of the message: 15 is left
-pub read-ends : (msg : List ℕ) (at : ℕ) (tally : Tally) (given t : Table) → length msg ≤ at → readLone given msg t (unanswered t) ≡ readRow given msg (rowIn msg at (length msg)) tally t
+pub read-ends : (msg : List ℕ) (at : ℕ) (tally : Tally) (given t : Table) → length msg ≤ at → readLone given t (loneNumber msg t) ≡ readRow given msg (rowIn msg at (length msg)) tally t
 read-ends msg at tally given t past = simp (rowIn-rule msg at (length msg), headAt-end msg at (length msg) (omega arith))
 
 module _ (msg : List ℕ) (at : ℕ) (t : Table) where
@@ -98,6 +99,9 @@ module _ (msg : List ℕ) (at : ℕ) (t : Table) where
   pub isTaken-other : (typeAt msg at ≡ 50 → ⊥) → (typeAt msg at ≡ 23 → ⊥) → isTaken msg at t ≡ false
   unfolding isTaken
   isTaken-other a b = rw (ne-eqb (typeAt msg at) 50 a, ne-eqb (typeAt msg at) 23 b)
+
+  pub isTaken-configuration : typeAt msg at ≡ 51 → isTaken msg at t ≡ false
+  isTaken-configuration k = isTaken-other (λ z. omega (arith, k)) (λ z. omega (arith, k))
 
   pub withElement-rule : typeAt msg at ≡ 50 → {q : Rule} → q ≡ ruleAt msg at → withRule q t ≡ withElement msg at t
   unfolding withElement

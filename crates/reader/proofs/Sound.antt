@@ -3,7 +3,7 @@
 --   isDistinct l                  no number stands twice in the list
 --   Sound t                       the room of t and the numbers in it
 --   sound-empty, sound-element    it holds of the empty table, and after an element whose number is not taken
---   listed-append, distinct-more  a number more at the end of a list
+--   distinct-more                 a number more at the end of a list
 -- Trusts: nothing.
 use Prim.Native.Nat.{ℕ, _+_, _≤_, _<_}
 use mathlib.Core.Path.{_≡_, refl, sym, ap, _∙_}
@@ -24,9 +24,10 @@ use Rattle.rules.specs.Rules.{ruleAt}
 use Rattle.classifiers.specs.Classifiers.{classifierAt}
 use Rattle.configurations.specs.Configurations.{configurationAt}
 use Rattle.configurations.proofs.Laws.{channels-room}
-use Rattle.reader.specs.Take.{withRule, withClassifier, withConfiguration, withElement, isListed, ruleNumbers, classifierNumbers, isTaken}
-use Rattle.reader.proofs.Lists.{map-append}
-use Rattle.reader.proofs.LawsLone.{listed-append}
+use Rattle.named.specs.Named.{isListed, classifierNumbers}
+use Rattle.named.proofs.Lists.{map-append}
+use Rattle.named.proofs.LawsListed.{listed-append}
+use Rattle.reader.specs.Take.{withRule, withClassifier, withConfiguration, withElement, ruleNumbers, isTaken}
 use Rattle.reader.proofs.Kept.{limited-same, pushedRule, pushedClassifier}
 
 abbrev pub isDistinct : List ℕ → Bool
@@ -70,11 +71,11 @@ module _ {t : Table} (s : Sound t) where
   unfolding withRule rulesOf classifiersOf
   sound-rule q free = on (ltb (t .rulecount) 32) refl
     where
-      pushed : t .rulecount < 32 → Sound (pushedRule q t)
+      pushed : t .rulecount < 32 → Sound (pushedRule (t .rulecount) q t)
       pushed h =
           record { rules = omega arith; classifiers = s .classifiers; channels = s .channels; ruleroom = simp length-set (s .ruleroom); classifierroom = s .classifierroom; ruleapart = rw (more (λ (x : Rule). x .number) (t .rules) (t .rulecount) q h (s .ruleroom)) (distinct-more (ruleNumbers t) (q .number) (s .ruleapart) free); classifierapart = s .classifierapart }
 
-      on : (b : Bool) → ltb (t .rulecount) 32 ≡ b → Sound (cond b (pushedRule q t) t)
+      on : (b : Bool) → ltb (t .rulecount) 32 ≡ b → Sound (cond b (pushedRule (t .rulecount) q t) t)
       on true e = pushed (ltb-true _ _ e)
       on false e = s
 
@@ -82,11 +83,11 @@ module _ {t : Table} (s : Sound t) where
   unfolding withClassifier rulesOf classifiersOf
   sound-classifier q free = on (ltb (t .classifiercount) 32) refl
     where
-      pushed : t .classifiercount < 32 → Sound (pushedClassifier q t)
+      pushed : t .classifiercount < 32 → Sound (pushedClassifier (t .classifiercount) q t)
       pushed h =
           record { rules = s .rules; classifiers = omega arith; channels = s .channels; ruleroom = s .ruleroom; classifierroom = simp length-set (s .classifierroom); ruleapart = s .ruleapart; classifierapart = rw (more (λ (x : Classifier). x .number) (t .classifiers) (t .classifiercount) q h (s .classifierroom)) (distinct-more (classifierNumbers t) (q .number) (s .classifierapart) free) }
 
-      on : (b : Bool) → ltb (t .classifiercount) 32 ≡ b → Sound (cond b (pushedClassifier q t) t)
+      on : (b : Bool) → ltb (t .classifiercount) 32 ≡ b → Sound (cond b (pushedClassifier (t .classifiercount) q t) t)
       on true e = pushed (ltb-true _ _ e)
       on false e = s
 

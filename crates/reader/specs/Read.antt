@@ -4,7 +4,7 @@
 --                          taken up; last 15; then the table. After a refusal the table is the given one.
 --   numberOf, offsetOf     the paper's number and offset of a verdict: 0 and 0 where the message is accepted
 --
--- Tests 6 to 13 are testedAt, of the crate rows. A message is refused at its first fault in this order.
+-- Tests 6 to 13 are testedAt, of the crate rows; 15 is loneNumber, of the crate named. A message is refused at its first fault in this order.
 -- Tested by: the starred messages in proofs/Bench.antt; random messages against the other program.
 -- Trusts: nothing.
 use Prim.Native.Nat.{ℕ}
@@ -19,9 +19,10 @@ use Rattle.rows.specs.Tests.{emptyTally}
 use Rattle.rows.specs.Rows.{testedAt}
 use Rattle.rows.specs.declared.Tally.{Tally}
 use Rattle.rows.specs.declared.Tested.{Tested}
-use Rattle.reader.specs.Take.{withElement, isTaken, unanswered, namedPlace}
-use Rattle.reader.specs.declared.Lone.{Lone}
-use Rattle.reader.specs.declared.Lone.the-variants.{Answered, Number}
+use Rattle.named.specs.Named.{loneNumber}
+use Rattle.named.specs.declared.Lone.{Lone}
+use Rattle.named.specs.declared.Lone.the-variants.{Answered, At}
+use Rattle.reader.specs.Take.{withElement, isTaken}
 use Rattle.reader.specs.declared.Reading.{Reading}
 use Rattle.reader.specs.declared.Verdict.{Verdict}
 use Rattle.reader.specs.declared.Verdict.the-variants.{Accepted, Refused}
@@ -38,13 +39,13 @@ abbrev pub refusal : ℕ → ℕ → Table → Reading
 refusal n off given = record { verdict = Refused n off; table = given }
 
 -- 15, or the table
-abbrev pub readLone : Table → List ℕ → Table → Lone → Reading
-readLone given msg t Answered = record { verdict = Accepted; table = t }
-readLone given msg t (Number i j) = refusal 15 (namedPlace msg i j) given
+abbrev pub readLone : Table → Table → Lone → Reading
+readLone given t Answered = record { verdict = Accepted; table = t }
+readLone given t (At off) = refusal 15 off given
 
 -- the rest of the top level, with the tally and the table that the elements before it leave
 abbrev pub readRow : Table → List ℕ → Row → Tally → Table → Reading
-readRow given msg done tally t = readLone given msg t (unanswered t)
+readRow given msg done tally t = readLone given t (loneNumber msg t)
 readRow given msg (bad at n) tally t = refusal n at given
 readRow given msg (item at len rest) tally t =
     cond (not (eqb (testedAt msg at tally .bad) 0)) (refusal (testedAt msg at tally .bad) (testedAt msg at tally .off) given)

@@ -11,5 +11,6 @@ read-elements-spec =
     (tie.spec
     (λ c κs. search needs)
     (λ c. reads-refused _ (c .before .before .before .take-up .ensures) (c .if1 .taken))
-    (λ c κs. c .before .before .before .before .take-up .ensures .carries (c .before .if1 .left))
-    (λ c. reads-last _ (c .before .before .before .before .before .take-up .ensures) (c .before .before .if1 .left) (c .last-test .ensures)))
+    (λ c κs. search needs)
+    (λ c κs. search needs)
+    (λ c. reads-last _ (c .before .before .before .before .before .take-up .ensures) (c .before .before .if1 .left) (c .before .lone-number .ensures) (c .last-verdict .ensures)))

@@ -1,4 +1,4 @@
--- `reader::named_place` gives namedPlace: the j-th 50.6 in the row of the i-th 50, or 0 where no element stands.
+-- `named::named_place` gives namedPlace: the j-th 50.6 in the row of the i-th 50, or 0 where no element stands.
 -- Trusts: nothing.
 use borrow.Author.Needs.{needs}
 use Prim.Native.Nat.{ℕ, _-_, _+_, _≤_}
@@ -8,9 +8,9 @@ use mathlib.Core.Logic.{⊎-elim}
 use lib.ListN.{getD}
 use Rattle.children.specs.Rows.{placesOf}
 use Rattle.children.proofs.Laws.{item-fits, rowInside-done, rowInside-row}
-use Rattle.reader.specs.Take.{namedPlace}
-use Rattle.reader.proofs.named_place.Statement.{statement}
-use Rattle.reader.proofs.named_place.Tie as tie
+use Rattle.named.specs.Named.{namedPlace}
+use Rattle.named.proofs.named_place.Statement.{statement}
+use Rattle.named.proofs.named_place.Tie as tie
 
 returns : tie.Need-returns
 unfolding namedPlace

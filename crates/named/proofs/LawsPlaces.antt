@@ -13,7 +13,7 @@ use Rattle.elements.specs.declared.Head.{Head}
 use Rattle.elements.specs.declared.Head.the-variants.{Value}
 use Rattle.children.specs.Rows.{Row, rowIn, typeAt, placesOf}
 use Rattle.children.proofs.Laws.{rowIn-stop, rowIn-item}
-use Rattle.reader.proofs.Lists.{getD-later}
+use Rattle.named.proofs.Lists.{getD-later}
 
 module _ (msg : List ℕ) (kind at end n : ℕ) {h : Head} (e : h ≡ headAt msg at end) where
   pub places-stop : ((len : ℕ) → h ≡ Value len → ⊥) → 0 ≡ getD (placesOf msg kind (rowIn msg at end)) n 0

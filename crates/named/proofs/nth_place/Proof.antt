@@ -1,4 +1,4 @@
--- `reader::nth_place` gives the n-th of placesOf. The loop keeps that the place it looks for is the one that is `left` places on from `at`.
+-- `named::nth_place` gives the n-th of placesOf. The loop keeps that the place it looks for is the one that is `left` places on from `at`.
 -- Trusts: nothing.
 use borrow.Author.Needs.{needs}
 use Prim.Native.Nat.{ℕ, _-_, _+_, _≤_}
@@ -9,9 +9,9 @@ use mathlib.Core.Logic.{⊎-elim}
 use lib.ListN.{getD}
 use Rattle.children.specs.Rows.{rowIn, placesOf}
 use Rattle.children.proofs.Laws.{item-fits}
-use Rattle.reader.proofs.LawsPlaces.{places-stop, places-other, places-first, places-later}
-use Rattle.reader.proofs.nth_place.Statement.{statement}
-use Rattle.reader.proofs.nth_place.Tie as tie
+use Rattle.named.proofs.LawsPlaces.{places-stop, places-other, places-first, places-later}
+use Rattle.named.proofs.nth_place.Statement.{statement}
+use Rattle.named.proofs.nth_place.Tie as tie
 
 abbrev Inv-loop : tie.InvT-loop
 Inv-loop message from end kind n left₀ at₀ left at =

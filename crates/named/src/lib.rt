@@ -1,0 +1,139 @@
+// The classifier numbers that rules name: test 15.
+//
+// Two public functions, which take any input. `lone_number` answers where the first 50.6 of a message stands whose number no
+// classifier of a table carries; `is_listed` looks a number up in a list of 32, for this test and for test 14. Counts above
+// their limits are read as the limits. They write nothing that is lent.
+use elements::Head;
+use table::Rule;
+use table::Table;
+ghost use mathlib.Core.Path.{_≡_};
+ghost use Prim.Native.Nat.{_≤_};
+ghost use lib.ListN.{length, getD, take};
+ghost use Rattle.children.specs.Rows.{rowIn, placesOf};
+ghost use Rattle.table.specs.Table.{limitedTo, rulesOf};
+ghost use Rattle.named.specs.Named.{isAmong, classifierNumbers, loneOf, namedPlace, loneNumber};
+
+// Whether every classifier number that the rules name is carried by a classifier.
+pub enum Lone {
+    // Every one is.
+    Answered,
+    // The type byte of the first 50.6 that is not answered stands here.
+    At(usize),
+}
+
+// What the search over a table finds.
+pub enum Found {
+    // Every number is carried.
+    Nothing,
+    // Rule i's number j is the first that is not.
+    Number(usize, usize),
+}
+
+// Whether the number is among the first `count` of the list. It looks at every one, so that the loop has one way out.
+pub fn is_listed(list: &[u16; 32], count: u8, number: u16) -> bool
+    ensures { λ r. ⌜ r ≡ isAmong number (limitedTo 32 count) (now (list .entry)) ⌝ }
+{
+    let end = table::limited(count, 32);
+    let mut listed = false;
+    let mut i = 0;
+    while i < end {
+        if list[i] == number {
+            listed = true;
+        }
+        i += 1;
+    }
+    listed
+}
+
+// Where the n-th element of this type (counted from 0) stands in the row `from` to `end`; 0 if there are fewer.
+fn nth_place(message: &[u8], from: usize, end: usize, kind: u8, n: usize) -> usize
+    ensures { λ r. ⌜ r ≡ getD (placesOf (now (message .entry)) kind (rowIn (now (message .entry)) from end)) n 0 ⌝ }
+{
+    let mut left = n;
+    let mut at = from;
+    loop {
+        let Head::Value(len) = elements::read_head(message, at, end) else {
+            return 0;
+        };
+        let here = at;
+        at = here + 2 + len;
+        if message[here] != kind {
+            continue;
+        }
+        if left == 0 {
+            return here;
+        }
+        left -= 1;
+    }
+}
+
+// Where the j-th 50.6 of the i-th rule stands.
+fn named_place(message: &[u8], i: usize, j: usize) -> usize
+    ensures { λ r. ⌜ r ≡ namedPlace (now (message .entry)) i j ⌝ }
+{
+    let rule = nth_place(message, 0, message.len(), 50, i);
+    let Head::Value(len) = elements::read_head(message, rule, message.len()) else {
+        return 0;
+    };
+    nth_place(message, rule + 2, rule + 2 + len, 6, j)
+}
+
+// How many classifier numbers a rule names, which has room for eight.
+fn named_count(rule: Rule) -> usize
+    ensures { λ r. ⌜ (r ≡ limitedTo 8 (rule .numbercount)) × (r ≤ 8) × (length (rule .numbers) ≡ 8) ⌝ }
+{
+    table::limited(rule.numbercount, 8)
+}
+
+// The first number that a rule names and that is not among the carried ones, of which there are as many as classifiers.
+fn first_unanswered(table: Table, carried: &[u16; 32]) -> Found
+    requires { ⌜ length (now carried) ≡ 32 ⌝ }
+    ensures { λ r. ⌜ r ≡ loneOf (take (table .classifiercount) (now (carried .entry))) 0 (rulesOf table) ⌝ }
+{
+    let mut found = Found::Nothing;
+    let rules = table::limited(table.rulecount, 32);
+    let mut i = 0;
+    'search: while i < rules {
+        let rule = table.rules[i];
+        let numbers = named_count(rule);
+        let mut j = 0;
+        while j < numbers {
+            if !is_listed(carried, table.classifiercount, rule.numbers[j]) {
+                found = Found::Number(i, j);
+                break 'search;
+            }
+            j += 1;
+        }
+        i += 1;
+    }
+    found
+}
+
+// The numbers of the classifiers, at the start of the list.
+fn gather(table: Table, carried: &mut [u16; 32])
+    requires { ⌜ length (now carried) ≡ 32 ⌝ }
+    ensures { λ r. ⌜ (take (table .classifiercount) (now (carried .exit)) ≡ classifierNumbers table) × (length (now (carried .exit)) ≡ 32) ⌝ }
+{
+    let count = table::limited(table.classifiercount, 32);
+    let mut k = 0;
+    while k < count {
+        let classifier = table.classifiers[k];
+        carried[k] = classifier.number;
+        k += 1;
+    }
+}
+
+// Test 15 of the table that a message's elements leave.
+pub fn lone_number(message: &[u8], table: Table) -> Lone
+    ensures { λ r. ⌜ r ≡ loneNumber (now (message .entry)) table ⌝ }
+{
+    let mut carried = [0u16; 32];
+    gather(table, &mut carried);
+    match first_unanswered(table, &carried) {
+        Found::Nothing => Lone::Answered,
+        Found::Number(i, j) => {
+            let place = named_place(message, i, j);
+            Lone::At(place)
+        }
+    }
+}
