@@ -9,7 +9,7 @@ use mathlib.Core.Path.{_≡_}
 use mathlib.Core.List.{List}
 use borrow.Author.Tests.{ne-eqb}
 use lib.ListN.{getD}
-use Rattle.wire.specs.Bytes.{numberAt}
+use Rattle.numbers.specs.Numbers.{numberAt}
 use Rattle.table.specs.declared.Classifier.{Classifier}
 use Rattle.children.specs.Rows.{typeAt}
 use Rattle.classifiers.specs.Classifiers.{withNumber, withPriority, withSource, withMask, withDestination, withStart, withEnd, withPartChild, withPart, withClassifierChild}

@@ -13,7 +13,7 @@ use mathlib.Core.Bool.{cond}
 use mathlib.Core.List.{List}
 use lib.ListN.{getD}
 use lib.Dec.{eqb}
-use Rattle.wire.specs.Bytes.{numberAt}
+use Rattle.numbers.specs.Numbers.{numberAt}
 use Rattle.table.specs.Table.{emptyClassifier}
 use Rattle.table.specs.declared.Classifier.{Classifier}
 use Rattle.children.specs.Rows.{rowIn, rowInside, rowFold, typeAt}

@@ -22,22 +22,22 @@ fn with_part_child(message: &[u8], at: usize, len: usize, given: Classifier) -> 
     let value = at + 2;
     match message[at] {
         3 => {
-            classifier.source = wire::number4(message, value);
+            classifier.source = numbers::number4(message, value);
             classifier.hassource = 1;
         }
         4 => {
-            classifier.mask = wire::number4(message, value);
+            classifier.mask = numbers::number4(message, value);
             classifier.hasmask = 1;
         }
         5 => {
-            classifier.destination = wire::number4(message, value);
+            classifier.destination = numbers::number4(message, value);
         }
         9 => {
-            classifier.start = wire::number2(message, value);
+            classifier.start = numbers::number2(message, value);
             classifier.hasstart = 1;
         }
         10 => {
-            classifier.end = wire::number2(message, value);
+            classifier.end = numbers::number2(message, value);
             classifier.hasend = 1;
         }
         _ => {}
@@ -75,10 +75,10 @@ fn classifier_in(message: &[u8], from: usize, end: usize) -> Classifier
         at = value + len;
         match kind {
             2 => {
-                classifier.number = wire::number2(message, value);
+                classifier.number = numbers::number2(message, value);
             }
             5 => {
-                classifier.priority = wire::number1(message, value);
+                classifier.priority = numbers::number1(message, value);
             }
             9 => {
                 classifier = with_part(message, value, at, classifier);

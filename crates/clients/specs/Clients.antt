@@ -15,7 +15,7 @@ use mathlib.Core.Bool.{Bool, cond, not, _&&_}
 use mathlib.Core.List.{List}
 use lib.ListN.{set, replicate}
 use lib.Dec.{eqb, ltb}
-use Rattle.wire.specs.Bytes.{numberAt}
+use Rattle.numbers.specs.Numbers.{numberAt}
 use Rattle.table.specs.Table.{emptyClient}
 use Rattle.table.specs.declared.Client.{Client}
 use Rattle.children.specs.Rows.{rowIn, rowFold, typeAt}

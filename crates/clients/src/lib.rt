@@ -23,7 +23,7 @@ fn client_at(message: &[u8], at: usize, len: usize) -> Client
 {
     let kind = message[at];
     if kind == 2 {
-        let mac = wire::number6(message, at + 2);
+        let mac = numbers::number6(message, at + 2);
         return Client {
             kind: 2,
             value: mac,
@@ -32,7 +32,7 @@ fn client_at(message: &[u8], at: usize, len: usize) -> Client
     if kind == 1 && len == 0 {
         return Client { kind: 0, value: 0 };
     }
-    let number = wire::number2(message, at + 2);
+    let number = numbers::number2(message, at + 2);
     Client {
         kind,
         value: number as u64,

@@ -11,7 +11,7 @@ use native.Mathlib.Omega.{arith}
 use borrow.Author.Tests.{ltb-true, lt-ltb, le-ltb, ne-eqb}
 use lib.ListN.{set}
 use lib.Dec.{eqb, ltb}
-use Rattle.wire.specs.Bytes.{numberAt}
+use Rattle.numbers.specs.Numbers.{numberAt}
 use Rattle.table.specs.declared.TimerValues.{TimerValues}
 use Rattle.children.specs.Rows.{typeAt, rowInside}
 use Rattle.configurations.specs.Configurations.{emptyConfiguration, withChannel, withTimers, withTimer, withConfigurationChild, configurationAt}

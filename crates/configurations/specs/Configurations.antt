@@ -14,7 +14,7 @@ use mathlib.Core.Bool.{cond}
 use mathlib.Core.List.{List}
 use lib.ListN.{set, replicate}
 use lib.Dec.{eqb, ltb}
-use Rattle.wire.specs.Bytes.{numberAt}
+use Rattle.numbers.specs.Numbers.{numberAt}
 use Rattle.table.specs.Table.{defaultTimers}
 use Rattle.table.specs.declared.TimerValues.{TimerValues}
 use Rattle.children.specs.Rows.{rowInside, rowFold, typeAt}

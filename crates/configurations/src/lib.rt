@@ -42,7 +42,7 @@ fn with_timer(message: &[u8], at: usize, given: TimerValues) -> TimerValues
     ensures { λ r. ⌜ r ≡ withTimer (now (message .entry)) at given ⌝ }
 {
     let mut timers = given;
-    let seconds = wire::number2(message, at + 2);
+    let seconds = numbers::number2(message, at + 2);
     match message[at] {
         2 => {
             timers.tdsg1 = seconds;
@@ -80,7 +80,7 @@ fn configuration_in(message: &[u8], from: usize, end: usize) -> Configuration
         }
         let n = configuration.channelcount;
         if n < 32 {
-            let channel = wire::number4(message, here + 2);
+            let channel = numbers::number4(message, here + 2);
             configuration.channels[n as usize] = channel;
             configuration.channelcount = n + 1;
         }

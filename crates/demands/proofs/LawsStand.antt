@@ -12,7 +12,7 @@ use mathlib.Core.Logic.{_⊎_, inl, inr}
 use native.Mathlib.Omega.{arith}
 use lib.ListN.{length, getD, take, drop, length-take, length-map, List·getD-map}
 use lib.Seq.{take-all, take-take, split-at, getD-take}
-use Rattle.wire.specs.Bytes.{numberAt}
+use Rattle.numbers.specs.Numbers.{numberAt}
 use Rattle.table.specs.Table.{emptyRule}
 use Rattle.children.specs.Rows.{rowInside, placesOf}
 use Rattle.rules.specs.Rules.{ruleAt}

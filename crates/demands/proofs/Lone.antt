@@ -17,7 +17,8 @@ use mathlib.Core.List.{List, [], _∷_, map, List·Memᴰ}
 use native.Mathlib.Omega.{arith}
 use lib.ListN.{length, getD, take, length-map}
 use lib.Seq.{take-all}
-use Rattle.wire.specs.Bytes.{numberAt, pasted}
+use Rattle.numbers.specs.Numbers.{numberAt}
+use Rattle.wire.specs.Bytes.{pasted}
 use Rattle.elements.specs.Elements.{headAt}
 use Rattle.elements.specs.Types.{knownTypes}
 use Rattle.elements.specs.Places.{childOf, under, placed, typeOf, parentIn, table, lineAt, placeIn, knownAt, typeUnder, missingIn, lacksMust}

@@ -7,10 +7,10 @@ use denote.Ref.{now}
 use Rattle.demands.proofs.Contract.{One, only, answer}
 use Rattle.demands.proofs.Parts as parts
 use Rattle.listing.specs.Listing.{Listing, written}
-use Rattle.wire.proofs.number1.Reads as number1
-use Rattle.wire.proofs.number2.Reads as number2
-use Rattle.wire.proofs.number4.Reads as number4
-use Rattle.wire.proofs.number6.Reads as number6
+use Rattle.numbers.proofs.number1.Reads as number1
+use Rattle.numbers.proofs.number2.Reads as number2
+use Rattle.numbers.proofs.number4.Reads as number4
+use Rattle.numbers.proofs.number6.Reads as number6
 use Rattle.wire.proofs.copy_at.Reads as copy_at
 use Rattle.wire.proofs.same_bytes.Reads as same_bytes
 use Rattle.table.proofs.limited.Reads as limited

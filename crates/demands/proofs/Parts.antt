@@ -9,11 +9,12 @@ use mathlib.Core.List.{List}
 use contract.Lifetimes.{Lfts}
 use denote.Ref.{now}
 use Rattle.demands.proofs.Contract.{Gives, answer}
-use Rattle.wire.specs.Bytes.{numberAt, pasted, sameBytes}
-use Rattle.wire.proofs.number1.Reads as number1
-use Rattle.wire.proofs.number2.Reads as number2
-use Rattle.wire.proofs.number4.Reads as number4
-use Rattle.wire.proofs.number6.Reads as number6
+use Rattle.numbers.specs.Numbers.{numberAt}
+use Rattle.wire.specs.Bytes.{pasted, sameBytes}
+use Rattle.numbers.proofs.number1.Reads as number1
+use Rattle.numbers.proofs.number2.Reads as number2
+use Rattle.numbers.proofs.number4.Reads as number4
+use Rattle.numbers.proofs.number6.Reads as number6
 use Rattle.wire.proofs.copy_at.Reads as copy_at
 use Rattle.wire.proofs.same_bytes.Reads as same_bytes
 use Rattle.table.specs.Table.{limitedTo, emptyClient, emptyRule, emptyClassifier, emptyTable}

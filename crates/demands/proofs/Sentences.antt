@@ -10,7 +10,8 @@ use mathlib.Core.Path.{_≡_, refl}
 use mathlib.Core.Bool.{false}
 use mathlib.Core.List.{List, [], _∷_}
 use lib.ListN.{replicate}
-use Rattle.wire.specs.Bytes.{numberAt, pasted}
+use Rattle.numbers.specs.Numbers.{numberAt}
+use Rattle.wire.specs.Bytes.{pasted}
 use Rattle.table.specs.declared.Client.{Client}
 use Rattle.table.specs.declared.Rule.{Rule}
 use Rattle.table.specs.declared.Table.{Table}

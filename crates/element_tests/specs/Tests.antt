@@ -10,7 +10,7 @@ use Prim.Native.Nat.{ℕ, _+_, _%_}
 use mathlib.Core.Bool.{Bool, false, cond, not, _&&_, _||_}
 use mathlib.Core.List.{List}
 use lib.Dec.{eqb, leb, ltb}
-use Rattle.wire.specs.Bytes.{numberAt}
+use Rattle.numbers.specs.Numbers.{numberAt}
 use Rattle.elements.specs.declared.types.Length.{Length}
 use Rattle.elements.specs.declared.types.Length.the-variants.{Row, Bytes, NoneOr, OrMore}
 use Rattle.elements.specs.declared.types.Values.{Values}

@@ -7,7 +7,7 @@ use elements::types::Length;
 use elements::types::Values;
 ghost use mathlib.Core.Path.{_≡_};
 ghost use Prim.Native.Nat.{ℕ, _+_};
-ghost use Rattle.wire.specs.Bytes.{numberAt};
+ghost use Rattle.numbers.specs.Numbers.{numberAt};
 ghost use Rattle.element_tests.specs.Tests.{secondCopy, wrongLength, noChannel, badValue, isFull, ownTests};
 
 // What an element comes to: 0, or a refusal number and its offset; and the list that it is counted in, with the
@@ -70,8 +70,8 @@ fn bad_value(message: &[u8], allowed: Values, at: usize, len: usize) -> bool
 {
     match allowed {
         Values::Any => false,
-        Values::NotZero => len == 2 && wire::number2(message, value_place(message, at)) == 0,
-        Values::Channel => no_channel(wire::number4(message, value_place(message, at))),
+        Values::NotZero => len == 2 && numbers::number2(message, value_place(message, at)) == 0,
+        Values::Channel => no_channel(numbers::number4(message, value_place(message, at))),
     }
 }
 

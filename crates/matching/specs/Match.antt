@@ -23,7 +23,7 @@ use lib.Dec.{ltb, leb, eqb}
 use Rattle.table.specs.declared.Rule.{Rule}
 use Rattle.table.specs.declared.Classifier.{Classifier}
 use Rattle.table.specs.Table.{isPresent, numbersOf}
-use Rattle.wire.specs.Bytes.{numberAt}
+use Rattle.numbers.specs.Numbers.{numberAt}
 use Rattle.choice.specs.Best.{anyOf}
 
 unfoldable pub wrongLength : List ℕ → Bool

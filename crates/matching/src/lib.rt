@@ -4,11 +4,11 @@
 // at, `entry_of` fills a classifier's absent parts in, `fits_packet` compares the two, `names_number` looks a
 // number up in a rule. All take any input and refuse nothing: a byte beyond the end counts as 0, a count
 // above its limit is read as the limit. The tests stand in the document's order; nothing is written.
+use numbers::number2;
+use numbers::number4;
 use table::Classifier;
 use table::Rule;
 use table::limited;
-use wire::number2;
-use wire::number4;
 ghost use mathlib.Core.Path.{_≡_};
 ghost use Rattle.matching.specs.Match.{wrongLength, namesNumber, isIpv4, hasPort, portWithin, presentOr};
 ghost use Rattle.matching.specs.Entry.{portsOf, entryOf, packetOf, fitsPacket};

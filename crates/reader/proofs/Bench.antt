@@ -10,7 +10,8 @@ use mathlib.Core.Bool.{true, false}
 use native.Mathlib.Omega.{arith}
 use lib.ListN.{length, getD, replicate}
 use lib.Dec.{eqb, ltb}
-use Rattle.wire.specs.Bytes.{numberAt, pasted}
+use Rattle.numbers.specs.Numbers.{numberAt}
+use Rattle.wire.specs.Bytes.{pasted}
 use Rattle.table.specs.Table.{rulesOf, classifiersOf, numbersOf, emptyClient, emptyRule, emptyClassifier, defaultTimers, emptyTable}
 use Rattle.table.specs.declared.Rule.{Rule}
 use Rattle.table.specs.declared.Table.{Table}

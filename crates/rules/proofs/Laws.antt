@@ -13,7 +13,8 @@ use lib.Dec.{eqb, leb, ltb}
 use Rattle.table.specs.Table.{emptyRule}
 use Rattle.children.proofs.LawsFolds.{fold-keeps}
 use lib.ListN.{length, length-set, getD, set, take, drop, replicate}
-use Rattle.wire.specs.Bytes.{numberAt, pasted}
+use Rattle.numbers.specs.Numbers.{numberAt}
+use Rattle.wire.specs.Bytes.{pasted}
 use Rattle.table.specs.declared.Rule.{Rule}
 use Rattle.children.specs.Rows.{typeAt, rowInside}
 use Rattle.rules.specs.Rules.{withNumber, withPriority, withUcids, withClients, withTunnel, withNamed, withRuleChild, ruleAt}

@@ -13,7 +13,8 @@ use mathlib.Core.Bool.{cond}
 use mathlib.Core.List.{List}
 use lib.ListN.{getD, set, take, drop, replicate}
 use lib.Dec.{eqb, ltb, leb}
-use Rattle.wire.specs.Bytes.{numberAt, pasted}
+use Rattle.numbers.specs.Numbers.{numberAt}
+use Rattle.wire.specs.Bytes.{pasted}
 use Rattle.table.specs.Table.{emptyRule}
 use Rattle.table.specs.declared.Rule.{Rule}
 use Rattle.children.specs.Rows.{rowInside, rowFold, typeAt}

@@ -49,10 +49,10 @@ fn rule_in(message: &[u8], from: usize, end: usize) -> Rule
         at = value + len;
         match kind {
             1 => {
-                rule.number = wire::number1(message, value);
+                rule.number = numbers::number1(message, value);
             }
             2 => {
-                rule.priority = wire::number1(message, value);
+                rule.priority = numbers::number1(message, value);
             }
             3 => {
                 if len <= 16 {
@@ -68,13 +68,13 @@ fn rule_in(message: &[u8], from: usize, end: usize) -> Rule
                 rule.clientcount = clients.count;
             }
             5 => {
-                rule.tunnel = wire::number6(message, value);
+                rule.tunnel = numbers::number6(message, value);
             }
             6 => {
                 let n = rule.numbercount;
                 if n < 8 {
                     let named = rule.numbers;
-                    let numbers = with_number(named, n, wire::number2(message, value));
+                    let numbers = with_number(named, n, numbers::number2(message, value));
                     rule.numbers = numbers;
                     rule.numbercount = n + 1;
                 }

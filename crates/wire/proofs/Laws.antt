@@ -1,9 +1,5 @@
--- Laws of numberAt, pasted and sameBytes (specs/Bytes.antt).
+-- Laws of pasted and sameBytes (specs/Bytes.antt).
 --
---   numberAt-past     no byte there: 0                 numberAt-below    below 256 ^ w, of bytes
---   numberAt-one      a number of one byte             numberAt-add      a number of v + w bytes
---   numberAt-same     equal bytes give equal numbers
---   numberAt-only     equal numbers of bytes have equal bytes
 --   pasted-fits       the piece fits: where it goes    pasted-not        it does not: the target
 --   length-pasted     the target's length              part-pasted       what stands where it went
 --   take-pasted, drop-pasted, part-pasted-before, part-pasted-behind     what does not change
@@ -12,59 +8,17 @@
 --   rest-all, part-all    what `&s[a..]` and `&s[a..a + n]` leave
 --   clash, both           false is not true; both of two tests
 -- Trusts: nothing.
-use Prim.Native.Nat.{ℕ, zero, suc, _+_, _*_, _-_, _^_, _≤_, _<_}
+use Prim.Native.Nat.{ℕ, _+_, _-_, _≤_, _<_}
 use mathlib.Core.Path.{_≡_, refl, sym, ap, _∙_}
 use mathlib.Core.Bool.{Bool, true, false, cond, _&&_, and-true, and-assoc}
 use mathlib.Core.List.{List, [], _∷_, _++_, append-assoc}
-use mathlib.Core.Logic.{_⊎_, inl, inr, ⊎-elim}
+use mathlib.Core.Logic.{_⊎_, inl, inr}
 use native.Mathlib.Omega.{arith}
-use native.Mathlib.Nat.{pow-zero, pow-suc, eq-or-lt-of-le, le-of-suc-le-suc, add-assoc, add-zero, add-suc, mul-assoc, pow-le-pow-right, lt-of-lt-of-le}
 use borrow.Author.Tests.{leb-true, eqb-true, eq-eqb, le-leb, lt-leb}
-use lib.ListN.{length, getD, take, drop, length-append, length-take, length-drop, take-append-drop, List·getD-eq-default, List·getD-append}
+use lib.ListN.{length, getD, take, drop, length-append, length-take, length-drop, take-append-drop}
 use lib.Seq.{paste, take-length, take-all, length-take-le, take-append-le, drop-append-le, drop-append-add, drop-drop, take-at, drop-at, getD-take, getD-drop}
 use lib.Dec.{leb, eqb}
-use Rattle.wire.specs.Bytes.{numberAt, pasted, sameBytes}
-
--- ---- numbers
-
-pub numberAt-past : (w : ℕ) (b : List ℕ) (at : ℕ) → length b ≤ at → numberAt w b at ≡ 0
-unfolding numberAt
-numberAt-past zero b at h = refl
-numberAt-past (suc w) b at h =
-    let q : length b ≤ at + w = omega arith in
-    omega (arith, numberAt-past w b at h, List·getD-eq-default b 0 q)
-
-pub numberAt-one : (b : List ℕ) (at : ℕ) → numberAt 1 b at ≡ getD b at 0
-unfolding numberAt
-numberAt-one b at = simp (add-zero at) (omega arith)
-
-pub numberAt-below : (w : ℕ) (b : List ℕ) (at : ℕ) → ((k : ℕ) → getD b k 0 < 256) → numberAt w b at < 256 ^ w
-unfolding numberAt
-numberAt-below zero b at h = omega (arith, pow-zero 256)
-numberAt-below (suc w) b at h = omega (arith, pow-suc 256 w, numberAt-below w b at h, h (at + w))
-
-pub numberAt-add : (v w : ℕ) (b : List ℕ) (at : ℕ) → numberAt (v + w) b at ≡ numberAt v b at * 256 ^ w + numberAt w b (at + v)
-unfolding numberAt
-numberAt-add v zero b at = rw (pow-zero 256, add-zero v) (omega arith)
-numberAt-add v (suc w) b at = rw (add-suc v w, pow-suc 256 w, numberAt-add v w b at, ← mul-assoc (numberAt v b at) (256 ^ w) 256, ← add-assoc at v w) (omega arith)
-
-pub numberAt-same : (w : ℕ) (a b : List ℕ) (i j : ℕ) → ((k : ℕ) → k < w → getD a (i + k) 0 ≡ getD b (j + k) 0) → numberAt w a i ≡ numberAt w b j
-unfolding numberAt
-numberAt-same zero a b i j h = refl
-numberAt-same (suc w) a b i j h = rw (numberAt-same w a b i j (λ k q. h k (omega arith)), h w (omega arith)) refl
-
-pub numberAt-only : (w : ℕ) (a b : List ℕ) (i j : ℕ) → ((k : ℕ) → getD a k 0 < 256) → ((k : ℕ) → getD b k 0 < 256)
-    → numberAt w a i ≡ numberAt w b j → (k : ℕ) → k < w → getD a (i + k) 0 ≡ getD b (j + k) 0
-unfolding numberAt
-numberAt-only zero a b i j f g e k q = absurd (omega arith)
-numberAt-only (suc w) a b i j f g e k q =
-    let last : getD a (i + w) 0 ≡ getD b (j + w) 0 = omega (arith, f (i + w), g (j + w)) in
-    let front : numberAt w a i ≡ numberAt w b j = omega (arith, f (i + w), g (j + w)) in
-    ⊎-elim (λ (x : k ≡ w). rw x last) (λ (x : k < w). numberAt-only w a b i j f g front k x) (eq-or-lt-of-le (le-of-suc-le-suc q))
-
--- with at most five bytes read there is room for a sixth in 64 bits
-pub pow-five : (k : ℕ) → k ≤ 5 → 256 ^ k ≤ 1099511627776
-pow-five k h = pow-le-pow-right {n = 256} (omega arith) h
+use Rattle.wire.specs.Bytes.{pasted, sameBytes}
 
 -- ---- a piece put into a buffer
 

@@ -6,7 +6,7 @@ use Prim.Native.Nat.{_+_, _-_, _<_}
 use mathlib.Core.Path.{_≡_, _∙_}
 use denote.Ref.{now}
 use native.Mathlib.Omega.{arith}
-use Rattle.wire.proofs.Laws.{numberAt-one}
+use Rattle.numbers.proofs.Laws.{numberAt-one}
 use Rattle.table.specs.Table.{emptyClassifier}
 use Rattle.table.specs.declared.Classifier.{Classifier}
 use Rattle.children.specs.Rows.{rowFold, rowIn}

@@ -5,8 +5,8 @@ use mathlib.Core.Path.{_≡_, refl, sym, _∙_}
 use mathlib.Core.List.{List}
 use native.Mathlib.Omega.{arith}
 use lib.ListN.{length}
-use Rattle.wire.specs.Bytes.{numberAt}
-use Rattle.wire.proofs.Laws.{numberAt-past}
+use Rattle.numbers.specs.Numbers.{numberAt}
+use Rattle.numbers.proofs.Laws.{numberAt-past}
 use Rattle.element_tests.proofs.value_place.Statement.{statement}
 use Rattle.element_tests.proofs.value_place.Tie as tie
 

@@ -1,7 +1,7 @@
 -- `wire::copy_fitting` gives `pasted`. The loop's invariant: the target is the one at entry with the first `i` bytes of the source from `at` on.
 -- Trusts: nothing.
 use mathlib.Core.Path.{_≡_, refl, ap, _∙_}
-use Prim.Native.Nat.{ℕ, _+_, _-_, _≤_}
+use Prim.Native.Nat.{ℕ, _-_, _≤_}
 use native.Mathlib.Omega.{arith}
 use native.Mathlib.Nat.{le-antisymm}
 use native.Mathlib.Numerals.{add-one}

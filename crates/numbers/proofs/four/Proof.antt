@@ -1,11 +1,11 @@
--- `wire::four` gives `numberAt 4`: two pairs of bytes, by the law of a number in two parts.
+-- `numbers::four` gives `numberAt 4`: two pairs of bytes, by the law of a number in two parts.
 -- Trusts: nothing.
 use native.Mathlib.Omega.{arith}
 use borrow.Author.Needs.{needs}
 use denote.Ref.{now}
-use Rattle.wire.proofs.Laws.{numberAt-add}
-use Rattle.wire.proofs.four.Statement.{statement}
-use Rattle.wire.proofs.four.Tie as tie
+use Rattle.numbers.proofs.Laws.{numberAt-add}
+use Rattle.numbers.proofs.four.Statement.{statement}
+use Rattle.numbers.proofs.four.Tie as tie
 
 returns : tie.Need-returns
 returns c =

@@ -1,11 +1,11 @@
--- `wire::number6` gives `numberAt 6`: four bytes and two, by the law of a number in two parts.
+-- `numbers::number6` gives `numberAt 6`: four bytes and two, by the law of a number in two parts.
 -- Trusts: nothing.
 use native.Mathlib.Omega.{arith}
 use borrow.Author.Needs.{needs}
 use denote.Ref.{now}
-use Rattle.wire.proofs.Laws.{numberAt-add}
-use Rattle.wire.proofs.number6.Statement.{statement}
-use Rattle.wire.proofs.number6.Tie as tie
+use Rattle.numbers.proofs.Laws.{numberAt-add}
+use Rattle.numbers.proofs.number6.Statement.{statement}
+use Rattle.numbers.proofs.number6.Tie as tie
 
 -- the bytes are all there
 returns-2 : tie.Need-returns-2

@@ -1,4 +1,4 @@
--- `wire::byte_after` gives the byte, and 0 beyond the end.
+-- `numbers::byte_after` gives the byte, and 0 beyond the end.
 -- Trusts: nothing.
 use mathlib.Core.Path.{sym}
 use Prim.Native.Nat.{_+_, _≤_}
@@ -6,8 +6,8 @@ use native.Mathlib.Omega.{arith}
 use borrow.Author.Needs.{needs}
 use denote.Ref.{now}
 use lib.ListN.{length, List·getD-eq-default}
-use Rattle.wire.proofs.byte_after.Statement.{statement}
-use Rattle.wire.proofs.byte_after.Tie as tie
+use Rattle.numbers.proofs.byte_after.Statement.{statement}
+use Rattle.numbers.proofs.byte_after.Tie as tie
 
 -- beyond the end: 0
 returns-2 : tie.Need-returns-2

@@ -1,12 +1,12 @@
--- `wire::pair` gives `numberAt 2`: its two bytes are below 256.
+-- `numbers::pair` gives `numberAt 2`: its two bytes are below 256.
 -- Trusts: nothing.
 use Prim.Native.Nat.{_+_}
 use native.Mathlib.Omega.{arith}
 use native.Mathlib.Nat.{add-zero, zero-add}
 use borrow.Author.Needs.{needs}
-use Rattle.wire.specs.Bytes.{numberAt}
-use Rattle.wire.proofs.pair.Statement.{statement}
-use Rattle.wire.proofs.pair.Tie as tie
+use Rattle.numbers.specs.Numbers.{numberAt}
+use Rattle.numbers.proofs.pair.Statement.{statement}
+use Rattle.numbers.proofs.pair.Tie as tie
 
 cast-result : tie.Need-cast-result
 cast-result c = omega (arith, c .shared-slice-known .given (c .before .args .at), c .shared-slice-known .given (c .before .args .at + 1))

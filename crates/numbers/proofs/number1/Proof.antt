@@ -1,11 +1,11 @@
--- `wire::number1` gives `numberAt 1`: the byte, and 0 beyond the end.
+-- `numbers::number1` gives `numberAt 1`: the byte, and 0 beyond the end.
 -- Trusts: nothing.
 use mathlib.Core.Path.{sym}
 use borrow.Author.Needs.{needs}
 use denote.Ref.{now}
-use Rattle.wire.proofs.Laws.{numberAt-one, numberAt-past}
-use Rattle.wire.proofs.number1.Statement.{statement}
-use Rattle.wire.proofs.number1.Tie as tie
+use Rattle.numbers.proofs.Laws.{numberAt-one, numberAt-past}
+use Rattle.numbers.proofs.number1.Statement.{statement}
+use Rattle.numbers.proofs.number1.Tie as tie
 
 pub number1-spec : {M : Type 1} → statement M
 number1-spec =

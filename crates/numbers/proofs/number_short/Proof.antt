@@ -1,16 +1,15 @@
--- `wire::number_short` gives `numberAt`. The loop's invariant: `n` is the number of the first `k` bytes, and below 256 ^ k; what falls is width - k.
+-- `numbers::number_short` gives `numberAt`. The loop's invariant: `n` is the number of the first `k` bytes, and below 256 ^ k; what falls is width - k.
 -- Trusts: nothing.
 use mathlib.Core.Path.{_≡_, refl}
-use Prim.Native.Nat.{ℕ, _-_, _^_, _≤_, _<_}
+use Prim.Native.Nat.{_-_, _^_, _≤_, _<_}
 use native.Mathlib.Omega.{arith}
 use native.Mathlib.Nat.{pow-suc, le-antisymm}
 use native.Mathlib.Numerals.{add-one}
 use borrow.Author.Needs.{needs}
-use lib.ListN.{length}
-use Rattle.wire.specs.Bytes.{numberAt}
-use Rattle.wire.proofs.Laws.{pow-five}
-use Rattle.wire.proofs.number_short.Statement.{statement}
-use Rattle.wire.proofs.number_short.Tie as tie
+use Rattle.numbers.specs.Numbers.{numberAt}
+use Rattle.numbers.proofs.Laws.{pow-five}
+use Rattle.numbers.proofs.number_short.Statement.{statement}
+use Rattle.numbers.proofs.number_short.Tie as tie
 
 abbrev Inv-loop : tie.InvT-loop
 Inv-loop bytes at width n₀ k₀ n k = (k ≤ width) × (n ≡ numberAt k bytes at) × (n < 256 ^ k)

@@ -1,0 +1,2 @@
+-- Laws: bytes as numbers, on plain lists.
+pub mod Laws
