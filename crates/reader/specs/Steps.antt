@@ -8,6 +8,7 @@
 --   kindOf msg at n        the type at `at`, if the element there is refused with no number
 --   GoesOn so end r        r says whether another element is to be read: nothing so far is refused, and the end is not reached
 --   lastVerdict lone       15, or the message is accepted
+--   finished msg s         the table of s with the configuration that stands at its place
 --   TakesUp msg s          the elements come to s: a refusal of the message, or a table of which only 15 is to be tested
 --   ReadsAs msg r          with any given table, the reading of the message is r, handed back
 --
@@ -23,9 +24,11 @@ use Rattle.table.specs.declared.Table.{Table}
 use Rattle.children.specs.Rows.{rowIn, typeAt}
 use Rattle.rows.specs.Tests.{emptyTally}
 use Rattle.rows.specs.declared.Tested.{Tested}
+use Rattle.configurations.specs.Configurations.{configurationAt}
 use Rattle.named.specs.Named.{isListed, loneNumber}
 use Rattle.named.specs.declared.Lone.{Lone}
 use Rattle.named.specs.declared.Lone.the-variants.{Answered, At}
+use Rattle.reader.specs.Take.{withConfiguration}
 use Rattle.reader.specs.Read.{refusal, readLone, readRow}
 use Rattle.reader.specs.declared.Reading.{Reading}
 use Rattle.reader.specs.declared.Taken.{Taken}
@@ -63,9 +66,13 @@ pub record GoesOn (so : Tested) (end : ℕ) (r : Bool) : Type 0 where
 unfoldable pub readAll : Table → List ℕ → Reading
 readAll given msg = readRow given msg (rowIn msg 0 (length msg)) emptyTally emptyTable
 
+-- the table that the elements leave: the configuration is put into the one without it
+abbrev pub finished : List ℕ → Taken → Table
+finished msg s = withConfiguration (configurationAt msg (s .configured)) (s .table)
+
 pub record TakesUp (msg : List ℕ) (s : Taken) : Type 0 where
   pub refused : (s .bad ≡ 0 → ⊥) → (given : Table) → refusal (s .bad) (s .off) given ≡ readAll given msg
-  pub whole : s .bad ≡ 0 → (given : Table) → readLone given (s .table) (loneNumber msg (s .table)) ≡ readAll given msg
+  pub whole : s .bad ≡ 0 → (given : Table) → readLone given (finished msg s) (loneNumber msg (finished msg s)) ≡ readAll given msg
 
 pub record ReadsAs (msg : List ℕ) (r : Reading) : Type 0 where
   pub reads : (given : Table) → handed given (r .verdict) (r .table) ≡ readAll given msg

@@ -38,10 +38,12 @@ pub struct Reading {
     pub table: Table,
 }
 
-// What the top-level elements come to: 0, or a refusal number of 6 to 14 and its offset; and the table so far.
+// What the top-level elements come to: 0, or a refusal number of 6 to 14 and its offset; where the configuration stands, or the
+// end of the message; and the table without it.
 pub struct Taken {
     pub bad: u8,
     pub off: usize,
+    pub configured: usize,
     pub table: Table,
 }
 
@@ -131,13 +133,14 @@ fn kind_of(message: &[u8], at: usize, bad: u8) -> u8
     message[at]
 }
 
-// The top-level elements in byte order, each tested 6 to 14 and taken up.
+// The top-level elements in byte order, each tested 6 to 14 and taken up; of the configuration its place is noted.
 fn take_up(message: &[u8]) -> Taken
     ensures { λ r. ⌜ TakesUp (now (message .entry)) r ⌝ }
 {
     let mut table = table::empty_table();
     let mut ruleids = [0u16; 32];
     let mut carried = [0u16; 32];
+    let mut configured = message.len();
     let mut tested = none_tested();
     while goes_on(message, tested) {
         let here = tested.next;
@@ -163,12 +166,7 @@ fn take_up(message: &[u8]) -> Taken
                 }
             }
             51 => {
-                let configuration = configurations::configuration_at(message, here);
-                let channels = configuration.channels;
-                let timers = configuration.timers;
-                table.channels = channels;
-                table.timers = timers;
-                table.channelcount = configuration.channelcount;
+                configured = here;
             }
             _ => {}
         }
@@ -176,6 +174,7 @@ fn take_up(message: &[u8]) -> Taken
     Taken {
         bad: tested.bad,
         off: tested.off,
+        configured,
         table,
     }
 }
@@ -195,11 +194,17 @@ fn read_elements(message: &[u8]) -> Reading
     ensures { λ r. ⌜ ReadsAs (now (message .entry)) r ⌝ }
 {
     let taken = take_up(message);
-    let table = taken.table;
+    let mut table = taken.table;
     if taken.bad != 0 {
         let verdict = Verdict::Refused(taken.bad, taken.off);
         return Reading { verdict, table };
     }
+    let configuration = configurations::configuration_at(message, taken.configured);
+    let channels = configuration.channels;
+    let timers = configuration.timers;
+    table.channels = channels;
+    table.timers = timers;
+    table.channelcount = configuration.channelcount;
     let verdict = last_verdict(named::lone_number(message, table));
     Reading { verdict, table }
 }

@@ -1,4 +1,4 @@
--- `reader::read_elements`: a refusal of 6 to 14 stands; else test 15 gives the verdict.
+-- `reader::read_elements`: a refusal of 6 to 14 stands; else the configuration is put into the table, and test 15 gives the verdict.
 -- Trusts: nothing.
 use borrow.Author.Needs.{needs}
 use Rattle.reader.proofs.LawsSteps.{reads-refused, reads-last}
@@ -13,4 +13,5 @@ read-elements-spec =
     (λ c. reads-refused _ (c .before .before .before .take-up .ensures) (c .if1 .taken))
     (λ c κs. search needs)
     (λ c κs. search needs)
-    (λ c. reads-last _ (c .before .before .before .before .before .take-up .ensures) (c .before .before .if1 .left) (c .before .lone-number .ensures) (c .last-verdict .ensures)))
+    (λ c κs. search needs)
+    (λ c. reads-last _ (c .before .before .before .before .before .before .before .before .take-up .ensures) (c .before .before .before .before .before .if1 .left) (c .before .before .before .before .configuration-at .ensures) (c .before .lone-number .ensures) (c .last-verdict .ensures)))
