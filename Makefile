@@ -15,10 +15,6 @@ COUNT := 60000
 AREA := all
 MEMCHECK_COUNT := 10000
 
-# How many crates, or edits, rt ci tries at a time. It waits for all of them before it takes the next so many: with as many
-# as there are cores, a core waits for the longest of them.
-JOBS := 6
-
 .PHONY: sample dcdlist test after-prove layout prove library host host-test samples host-c bench memcheck measure clean help
 
 sample: dcdlist ## build dcdlist and list document 01's example body (the default)
@@ -40,7 +36,7 @@ layout: ## are all Rattle files laid out as rt fmt lays them out?
 
 prove: ## prove every crate from nothing, and try every must-fail edit
 	@mkdir -p $(LOGS)
-	@RT_JOBS=$(JOBS) rt ci 2>&1 | tee $(LOGS)/ci
+	@rt ci 2>&1 | tee $(LOGS)/ci
 
 library: $(LIBRARY) ## prove and build target/staticlib/libdsg.a, for C and Rust to link
 
