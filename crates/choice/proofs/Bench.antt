@@ -16,7 +16,7 @@ use Rattle.table.specs.Table.{rulesOf, clientsOf, ucidsOf, emptyClient, emptyRu
 use Rattle.choice.specs.declared.Ucid.{Ucid}
 use Rattle.choice.specs.declared.Ucid.the-variants.{Unknown, Known}
 use Rattle.choice.specs.declared.Choice.the-variants.{Chosen, Refused}
-use Rattle.choice.specs.Best.{comesBefore, anyOf, firstPlace, isBest, bestPlace}
+use Rattle.order.specs.Best.{comesBefore, anyOf, firstPlace, isBest, bestPlace}
 use Rattle.choice.specs.Choose.{isClient, listsClient, listsUcid, admitsUcid, fitsClient, chosenPlace, chosenRule, choiceOf, ruleAt}
 
 abbrev pub application42 : Client

@@ -24,12 +24,12 @@ use Rattle.table.proofs.Laws.{limitedTo-le}
 use Rattle.choice.specs.declared.Ucid.{Ucid}
 use Rattle.choice.specs.declared.Choice.{Choice}
 use Rattle.choice.specs.declared.Choice.the-variants.{Chosen, Refused}
-use Rattle.choice.specs.Best.{comesBefore, bestPlace}
+use Rattle.order.specs.Best.{comesBefore, bestPlace}
 use Rattle.choice.specs.Choose.{listsClient, fitsClient, chosenPlace, choiceOf, ruleAt, FitsBest}
-use Rattle.choice.proofs.Order.{comesBefore-yes, comesBefore-no}
-use Rattle.choice.proofs.Places.{bestPlace-none, bestPlace-le}
-use Rattle.choice.proofs.Scan.{bestPlace-nobody}
-use Rattle.choice.proofs.Chosen.{mem-at, place-of, bestPlace-passes, bestPlace-over, bestPlace-first, bestPlace-only}
+use Rattle.order.proofs.Order.{comesBefore-yes, comesBefore-no}
+use Rattle.order.proofs.Places.{bestPlace-none, bestPlace-le}
+use Rattle.order.proofs.Scan.{bestPlace-nobody}
+use Rattle.order.proofs.Chosen.{mem-at, place-of, bestPlace-passes, bestPlace-over, bestPlace-first, bestPlace-only}
 
 abbrev pr : Rule → ℕ
 pr rule = rule .priority

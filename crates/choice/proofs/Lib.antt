@@ -1,11 +1,6 @@
--- Search: a loop that looks for an element that passes. Order: the order of priorities and numbers.
--- Places: the place of the first and of the best, by what is known of the members. Scan: one walk from the front finds the best place. Laws: of the choice.
-pub mod Search
-pub mod Order
-pub mod Places
-pub mod Scan
+-- Laws: of the choice. Fits: the choice said without a computation. Orderless: the order of the rules does not matter. Bench: message M.
+-- Controls: wrong programs.
 pub mod Laws
-pub mod Chosen
 pub mod Fits
 pub mod Orderless
 pub mod Bench

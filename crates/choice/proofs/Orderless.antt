@@ -17,12 +17,12 @@ use Rattle.table.specs.declared.Client.{Client}
 use Rattle.table.specs.declared.Rule.{Rule}
 use Rattle.table.specs.Table.{emptyRule}
 use Rattle.choice.specs.declared.Ucid.{Ucid}
-use Rattle.choice.specs.Best.{comesBefore, bestPlace}
+use Rattle.order.specs.Best.{comesBefore, bestPlace}
 use Rattle.choice.specs.Choose.{fitsClient, chosenPlace, chosenRule}
-use Rattle.choice.proofs.Order.{comesBefore-tied}
-use Rattle.choice.proofs.Places.{clash, bestPlace-le}
-use Rattle.choice.proofs.Scan.{bestPlace-nobody}
-use Rattle.choice.proofs.Chosen.{mem-at, place-of, bestPlace-passes, bestPlace-over}
+use Rattle.order.proofs.Order.{comesBefore-tied}
+use Rattle.order.proofs.Places.{clash, bestPlace-le}
+use Rattle.order.proofs.Scan.{bestPlace-nobody}
+use Rattle.order.proofs.Chosen.{mem-at, place-of, bestPlace-passes, bestPlace-over}
 
 abbrev pr : Rule → ℕ
 pr rule = rule .priority

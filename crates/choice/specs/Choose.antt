@@ -27,7 +27,7 @@ use Rattle.choice.specs.declared.Ucid.{Ucid}
 use Rattle.choice.specs.declared.Ucid.the-variants.{Unknown, Known}
 use Rattle.choice.specs.declared.Choice.{Choice}
 use Rattle.choice.specs.declared.Choice.the-variants.{Chosen, Refused}
-use Rattle.choice.specs.Best.{anyOf, bestPlace}
+use Rattle.order.specs.Best.{anyOf, bestPlace}
 
 unfoldable pub isClient : Client → Client → Bool
 isClient a b = eqb (a .kind) (b .kind) && eqb (a .value) (b .value)

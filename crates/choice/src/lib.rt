@@ -1,8 +1,10 @@
 // Chooses the rule for a client (document 01, "Choosing and judging").
 //
-// Three public functions. `choose_rule` takes any lent table, client and UCID, and answers the rule's place
-// or refusal 17; `rule_at` gives the rule there; `is_better` is the order in which rules, and classifiers
-// too, are preferred. All take any input; a count above its limit is read as the limit. Nothing is written.
+// Two public functions. `choose_rule` takes any lent table, client and UCID, and answers the rule's place
+// or refusal 17; `rule_at` gives the rule there. Both take any input; a count above its limit is read as the
+// limit. Nothing is written.
+use order::Best;
+use order::is_better;
 use table::Client;
 use table::Rule;
 use table::Table;
@@ -11,7 +13,7 @@ use table::limited;
 ghost use mathlib.Core.Path.{_≡_};
 ghost use mathlib.Core.Bool.{false, _&&_, _||_};
 ghost use lib.Dec.{eqb};
-ghost use Rattle.choice.specs.Best.{isBetter, bestAfter};
+ghost use Rattle.order.specs.Best.{isBetter, bestAfter};
 ghost use Rattle.choice.specs.Choose.{isClient, listsClient, listsUcid, admitsUcid, fitsClient, choiceOf, ruleAt};
 
 // What is known of the upstream channel.
@@ -28,13 +30,6 @@ pub enum Choice {
     Chosen(usize),
     // The number of the refusal.
     Refused(u8),
-}
-
-// The best of the places that were looked at, with its priority and number; place 32 is none yet.
-pub struct Best {
-    pub place: usize,
-    pub priority: u8,
-    pub number: u16,
 }
 
 // Whether two client IDs have the same kind and the same value.
@@ -129,19 +124,6 @@ fn fits_client(rule: Rule, client: Client, ucid: Ucid) -> bool
         return admits_ucid(rule, ucid);
     }
     false
-}
-
-// Whether this priority and number come before those of the best so far, or there is none so far.
-pub fn is_better(best: Best, priority: u8, number: u16) -> bool
-    ensures { λ r. ⌜ r ≡ isBetter best priority number ⌝ }
-{
-    if best.place == 32 {
-        return true;
-    }
-    if priority != best.priority {
-        return best.priority < priority;
-    }
-    number < best.number
 }
 
 // Whether the rule may become the best: where not, the best so far stays, whatever the UCID.

@@ -21,7 +21,7 @@ use Rattle.table.specs.Table.{rulesOf, limitedTo, classifiersOf, emptyClassifie
 use Rattle.choice.specs.declared.Ucid.{Ucid}
 use Rattle.choice.specs.declared.Choice.{Choice}
 use Rattle.choice.specs.declared.Choice.the-variants as choice
-use Rattle.choice.specs.Best.{firstPlace}
+use Rattle.order.specs.Best.{firstPlace}
 use Rattle.choice.specs.Choose.{chosenPlace, choiceOf, ruleAt}
 use Rattle.prepared.specs.declared.Tunnel.{Tunnel}
 use Rattle.tunnel.specs.declared.Verdict.{Verdict}

@@ -31,9 +31,9 @@ use Rattle.receiver.specs.Receive.{told, Had, receiveStep}
 use Rattle.receiver.proofs.receive.Reads as receive
 use Rattle.receiver.proofs.receive.Statement as receive′
 use Rattle.receiver.proofs.receive.Met as receive″
-use Rattle.choice.specs.Best.{isBetter}
+use Rattle.order.specs.Best.{isBetter}
 use Rattle.choice.specs.Choose.{choiceOf, ruleAt}
-use Rattle.choice.proofs.is_better.Reads as is_better
+use Rattle.order.proofs.is_better.Reads as is_better
 use Rattle.choice.proofs.rule_at.Reads as choice_rule_at
 use Rattle.choice.proofs.choose_rule.Reads as choose_rule
 use Rattle.choice.proofs.choose_rule.Statement as choose_rule′

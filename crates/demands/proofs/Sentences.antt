@@ -28,7 +28,7 @@ use Rattle.children.specs.Rows.{done, item, rowFrom, rowIn, rowInside}
 use Rattle.clients.specs.Clients.{withClientChild, clientsIn}
 use Rattle.rules.specs.Rules.{withRuleChild, ruleAt}
 use Rattle.choice.specs.declared.Ucid.{Ucid}
-use Rattle.choice.specs.Best.{anyOf}
+use Rattle.order.specs.Best.{anyOf}
 use Rattle.choice.specs.Choose.{listsClient, fitsClient}
 use Rattle.named.specs.Named.{unanswered, loneNumber}
 use Rattle.named.specs.declared.Found.the-variants.{Nothing}

@@ -21,7 +21,7 @@ use Rattle.reader.specs.declared.Verdict.the-variants as verdict
 use Rattle.choice.specs.declared.Ucid.the-variants.{Unknown}
 use Rattle.choice.specs.declared.Choice.{Choice}
 use Rattle.choice.specs.declared.Choice.the-variants as choice
-use Rattle.choice.specs.Best.{comesBefore, anyOf, firstPlace, isBest, bestPlace}
+use Rattle.order.specs.Best.{comesBefore, anyOf, firstPlace, isBest, bestPlace}
 use Rattle.choice.specs.Choose.{isClient, listsClient, admitsUcid, fitsClient, chosenPlace, choiceOf, ruleAt}
 use Rattle.collector.specs.Answers.{Said, waiting, complete}
 use Rattle.collector_demands.specs.Runs.{replyOf}

@@ -24,7 +24,7 @@ use Rattle.table.specs.declared.Rule.{Rule}
 use Rattle.table.specs.declared.Classifier.{Classifier}
 use Rattle.table.specs.Table.{isPresent, numbersOf}
 use Rattle.numbers.specs.Numbers.{numberAt}
-use Rattle.choice.specs.Best.{anyOf}
+use Rattle.order.specs.Best.{anyOf}
 
 unfoldable pub wrongLength : List ℕ → Bool
 wrongLength frame = ltb (length frame) 14 || ltb 1518 (length frame)

@@ -11,7 +11,7 @@ use native.Mathlib.Nat.{add-zero}
 use native.Mathlib.Numerals.{add-one}
 use native.Mathlib.Omega.{arith}
 use lib.ListN.{length}
-use Rattle.choice.specs.Best.{firstPlace}
+use Rattle.order.specs.Best.{firstPlace}
 use Rattle.prepared.specs.Prepared.{listFrom}
 
 module _ {A : Type 0} (at : ℕ → A) where

@@ -13,7 +13,7 @@ use mathlib.Core.List.{List, [], _∷_}
 use lib.ListN.{getD}
 use lib.Dec.{ltb, eqb}
 use Rattle.table.specs.Table.{limitedTo}
-use Rattle.choice.specs.Best.{firstPlace}
+use Rattle.order.specs.Best.{firstPlace}
 use Rattle.matching.specs.declared.Entry.{Entry}
 use Rattle.matching.specs.Match.{wrongLength, addressAt}
 use Rattle.matching.specs.Entry.{matchesEntry}

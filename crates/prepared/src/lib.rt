@@ -13,7 +13,7 @@ use table::limited;
 use tunnel::Verdict;
 ghost use mathlib.Core.Path.{_≡_};
 ghost use lib.Dec.{eqb};
-ghost use Rattle.choice.specs.Best.{firstPlace};
+ghost use Rattle.order.specs.Best.{firstPlace};
 ghost use Rattle.matching.specs.Match.{addressAt};
 ghost use Rattle.matching.specs.Entry.{matchesEntry};
 ghost use Rattle.prepared.specs.Prepared.{lentTunnel, entriesOf, preparedVerdict};

@@ -19,11 +19,11 @@ use Rattle.table.specs.declared.Classifier.{Classifier}
 use Rattle.table.specs.declared.Table.{Table}
 use Rattle.table.specs.Table.{limitedTo, classifiersOf, emptyClassifier}
 use Rattle.table.proofs.Laws.{limitedTo-le}
-use Rattle.choice.specs.Best.{firstPlace}
-use Rattle.choice.proofs.Order.{comesBefore-self, comesBefore-tied}
-use Rattle.choice.proofs.Places.{clash, and-yes, bestPlace-le}
-use Rattle.choice.proofs.Scan.{bestPlace-nobody}
-use Rattle.choice.proofs.Chosen.{mem-at, place-of, firstPlace-is, firstPlace-before, bestPlace-passes, bestPlace-over}
+use Rattle.order.specs.Best.{firstPlace}
+use Rattle.order.proofs.Order.{comesBefore-self, comesBefore-tied}
+use Rattle.order.proofs.Places.{clash, and-yes, bestPlace-le}
+use Rattle.order.proofs.Scan.{bestPlace-nobody}
+use Rattle.order.proofs.Chosen.{mem-at, place-of, firstPlace-is, firstPlace-before, bestPlace-passes, bestPlace-over}
 use Rattle.matching.specs.Match.{matchesFrame, namesNumber}
 use Rattle.tunnel.specs.Judge.{matchPlace}
 use Rattle.preparing.specs.Order.{comesFirst, namedInOrder}

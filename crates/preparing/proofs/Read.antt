@@ -15,7 +15,7 @@ use lib.Dec.{ltb}
 use lib.ListN.{length, getD, replicate, length-map, List·getD-append, List·getD-map}
 use borrow.Author.Tests.{le-ltb}
 use Rattle.table.specs.Table.{limitedTo}
-use Rattle.choice.specs.Best.{firstPlace}
+use Rattle.order.specs.Best.{firstPlace}
 use Rattle.matching.specs.declared.Entry.{Entry}
 use Rattle.prepared.specs.declared.Tunnel.{Tunnel}
 use Rattle.prepared.specs.Prepared.{entryAt, listFrom, entriesOf}

@@ -18,7 +18,7 @@ use Rattle.table.specs.Table.{limitedTo, classifiersOf, emptyClassifier}
 use Rattle.choice.specs.declared.Ucid.{Ucid}
 use Rattle.choice.specs.declared.Choice.{Choice}
 use Rattle.choice.specs.declared.Choice.the-variants as choice
-use Rattle.choice.specs.Best.{firstPlace}
+use Rattle.order.specs.Best.{firstPlace}
 use Rattle.choice.specs.Choose.{choiceOf, ruleAt}
 use Rattle.choice.proofs.Laws.{getD-there}
 use Rattle.choice.proofs.Fits.{choiceOf-17}

@@ -11,7 +11,7 @@ use lib.ListN.{take, replicate}
 use Rattle.table.specs.Table.{rulesOf, clientsOf, ucidsOf, classifiersOf}
 use Rattle.numbers.specs.Numbers.{numberAt}
 use Rattle.choice.specs.declared.Ucid.the-variants.{Unknown}
-use Rattle.choice.specs.Best.{comesBefore, anyOf, firstPlace, isBest, bestPlace}
+use Rattle.order.specs.Best.{comesBefore, anyOf, firstPlace, isBest, bestPlace}
 use Rattle.choice.specs.Choose.{isClient, listsClient, listsUcid, admitsUcid, fitsClient, chosenPlace, choiceOf}
 use Rattle.choice.proofs.Bench.{application42, tableM}
 use Rattle.tunnel.specs.declared.Verdict.the-variants.{Refused, Other, Forward}

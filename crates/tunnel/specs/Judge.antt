@@ -21,7 +21,7 @@ use Rattle.table.specs.Table.{classifiersOf, emptyClassifier}
 use Rattle.choice.specs.declared.Ucid.{Ucid}
 use Rattle.choice.specs.declared.Choice.{Choice}
 use Rattle.choice.specs.declared.Choice.the-variants as choice
-use Rattle.choice.specs.Best.{bestPlace}
+use Rattle.order.specs.Best.{bestPlace}
 use Rattle.choice.specs.Choose.{choiceOf, ruleAt}
 use Rattle.tunnel.specs.declared.Verdict.{Verdict}
 use Rattle.tunnel.specs.declared.Verdict.the-variants.{Refused, Other, Forward, Filtered}

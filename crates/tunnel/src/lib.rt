@@ -3,11 +3,9 @@
 // Public functions: `judge_frame` gives the verdict, `payload` lends the part of a forwarded frame back. Both
 // take any input: a frame of a wrong length is refusal 16, a client that no rule fits refusal 17, and a count
 // above its limit is read as the limit. Nothing that is lent is written.
-use choice::Best;
 use choice::Choice;
 use choice::Ucid;
 use choice::choose_rule;
-use choice::is_better;
 use choice::rule_at;
 use matching::Packet;
 use matching::entry_of;
@@ -16,6 +14,8 @@ use matching::names_number;
 use matching::read_packet;
 use matching::wrong_length;
 use numbers::number6;
+use order::Best;
+use order::is_better;
 use table::Classifier;
 use table::Client;
 use table::Rule;
@@ -23,7 +23,7 @@ use table::Table;
 use table::limited;
 ghost use mathlib.Core.Path.{_≡_};
 ghost use mathlib.Core.Bool.{_&&_};
-ghost use Rattle.choice.specs.Best.{bestAfter};
+ghost use Rattle.order.specs.Best.{bestAfter};
 ghost use Rattle.matching.specs.Match.{namesNumber};
 ghost use Rattle.matching.specs.Entry.{entryOf, fitsPacket};
 ghost use Rattle.tunnel.specs.Judge.{matchPlace, ruleVerdict, verdictOf, payloadStart, payloadOf};

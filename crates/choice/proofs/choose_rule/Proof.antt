@@ -16,12 +16,12 @@ use Rattle.table.specs.declared.Client.{Client}
 use Rattle.table.specs.declared.Rule.{Rule}
 use Rattle.table.specs.declared.Table.{Table}
 use Rattle.table.specs.Table.{rulesOf}
-use Rattle.choice.specs.declared.Best.{Best}
+use Rattle.order.specs.declared.Best.{Best}
 use Rattle.choice.specs.declared.Ucid.{Ucid}
 use Rattle.choice.specs.declared.Choice.the-variants.{Chosen, Refused}
-use Rattle.choice.specs.Best.{isBetter, bestAfter}
+use Rattle.order.specs.Best.{isBetter, bestAfter}
 use Rattle.choice.specs.Choose.{fitsClient, chosenPlace, choiceOf}
-use Rattle.choice.proofs.Scan.{nothing, scan, scan-more, scan-end, scan-none, scan-some}
+use Rattle.order.proofs.Scan.{nothing, scan, scan-more, scan-end, scan-none, scan-some}
 use Rattle.choice.proofs.choose_rule.Statement.{statement}
 use Rattle.choice.proofs.choose_rule.Tie as tie
 

@@ -12,10 +12,10 @@ use lib.ListN.{length, take, drop}
 use Rattle.table.proofs.Laws.{limitedTo-le, length-mapped}
 use Rattle.table.specs.declared.Client.{Client}
 use Rattle.table.specs.Table.{limitedTo, clientsOf}
-use Rattle.choice.specs.Best.{anyOf}
+use Rattle.order.specs.Best.{anyOf}
 use Rattle.choice.specs.Choose.{isClient, listsClient}
-use Rattle.choice.proofs.Places.{or-no}
-use Rattle.choice.proofs.Search.{anyOf-skip, anyOf-end}
+use Rattle.order.proofs.Places.{or-no}
+use Rattle.order.proofs.Search.{anyOf-skip, anyOf-end}
 use Rattle.choice.proofs.has_value.Statement.{statement}
 use Rattle.choice.proofs.has_value.Tie as tie
 

@@ -8,9 +8,9 @@ use native.Mathlib.Omega.{arith}
 use lib.ListN.{length, take, drop}
 use Rattle.table.proofs.Laws.{limitedTo-le, length-mapped}
 use Rattle.table.specs.Table.{clientsOf}
-use Rattle.choice.specs.Best.{anyOf}
+use Rattle.order.specs.Best.{anyOf}
 use Rattle.choice.specs.Choose.{isClient, listsClient}
-use Rattle.choice.proofs.Search.{anyOf-found, anyOf-passed, anyOf-end}
+use Rattle.order.proofs.Search.{anyOf-found, anyOf-passed, anyOf-end}
 use Rattle.choice.proofs.lists_client.Statement.{statement}
 use Rattle.choice.proofs.lists_client.Tie as tie
 

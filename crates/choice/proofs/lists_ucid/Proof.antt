@@ -10,9 +10,9 @@ use lib.Dec.{eqb}
 use lib.ListN.{length, take, drop}
 use Rattle.table.proofs.Laws.{limitedTo-le, length-mapped}
 use Rattle.table.specs.Table.{ucidsOf}
-use Rattle.choice.specs.Best.{anyOf}
+use Rattle.order.specs.Best.{anyOf}
 use Rattle.choice.specs.Choose.{listsUcid}
-use Rattle.choice.proofs.Search.{anyOf-found, anyOf-passed, anyOf-end}
+use Rattle.order.proofs.Search.{anyOf-found, anyOf-passed, anyOf-end}
 use Rattle.choice.proofs.lists_ucid.Statement.{statement}
 use Rattle.choice.proofs.lists_ucid.Tie as tie
 

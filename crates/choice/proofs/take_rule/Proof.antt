@@ -2,7 +2,7 @@
 -- Trusts: nothing.
 use borrow.Author.Needs.{needs}
 use borrow.Author.Tests.{not-true, not-false}
-use Rattle.choice.specs.Best.{bestAfter}
+use Rattle.order.specs.Best.{bestAfter}
 use Rattle.choice.proofs.take_rule.Statement.{statement}
 use Rattle.choice.proofs.take_rule.Tie as tie
 

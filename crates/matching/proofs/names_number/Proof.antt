@@ -10,9 +10,9 @@ use lib.Dec.{eqb}
 use lib.ListN.{length, take, drop}
 use Rattle.table.proofs.Laws.{limitedTo-le, length-mapped}
 use Rattle.table.specs.Table.{numbersOf}
-use Rattle.choice.specs.Best.{anyOf}
+use Rattle.order.specs.Best.{anyOf}
 use Rattle.matching.specs.Match.{namesNumber}
-use Rattle.choice.proofs.Search.{anyOf-found, anyOf-passed, anyOf-end}
+use Rattle.order.proofs.Search.{anyOf-found, anyOf-passed, anyOf-end}
 use Rattle.matching.proofs.names_number.Statement.{statement}
 use Rattle.matching.proofs.names_number.Tie as tie
 

@@ -13,10 +13,10 @@ use Rattle.table.specs.declared.Rule.{Rule}
 use Rattle.table.specs.declared.Classifier.{Classifier}
 use Rattle.table.specs.declared.Table.{Table}
 use Rattle.table.specs.Table.{limitedTo, classifiersOf}
-use Rattle.choice.specs.declared.Best.{Best}
-use Rattle.choice.specs.Best.{bestPlace}
-use Rattle.choice.proofs.Places.{bestPlace-none}
-use Rattle.choice.proofs.Scan.{nothing, scan, scan-more, scan-end, scan-none, scan-some}
+use Rattle.order.specs.declared.Best.{Best}
+use Rattle.order.specs.Best.{bestPlace}
+use Rattle.order.proofs.Places.{bestPlace-none}
+use Rattle.order.proofs.Scan.{nothing, scan, scan-more, scan-end, scan-none, scan-some}
 use Rattle.matching.specs.declared.Packet.{Packet}
 use Rattle.matching.specs.Match.{matchesFrame, namesNumber}
 use Rattle.tunnel.specs.Judge.{matchPlace}

@@ -2,7 +2,7 @@
 -- Trusts: nothing.
 use borrow.Author.Needs.{needs}
 use borrow.Author.Tests.{not-true, not-false}
-use Rattle.choice.specs.Best.{bestAfter}
+use Rattle.order.specs.Best.{bestAfter}
 use Rattle.tunnel.proofs.take_classifier.Statement.{statement}
 use Rattle.tunnel.proofs.take_classifier.Tie as tie
 

@@ -15,8 +15,8 @@ use lib.Dec.{ltb}
 use lib.ListN.{length, getD, take, drop, length-take, length-drop}
 use lib.Seq.{split-at, getD-take, getD-drop, length-take-le}
 use borrow.Author.Tests.{ltb-true, ltb-false, not-true}
-use Rattle.choice.specs.Best.{comesBefore, anyOf, firstPlace, isBest, bestPlace}
-use Rattle.choice.proofs.Places.{clash, and-yes, anyOf-yes, bestPlace-at}
+use Rattle.order.specs.Best.{comesBefore, anyOf, firstPlace, isBest, bestPlace}
+use Rattle.order.proofs.Places.{clash, and-yes, anyOf-yes, bestPlace-at}
 
 module _ {A : Type 0} (d : A) where
   pub mem-at : (xs : List A) (k : ℕ) → k < length xs → List·Memᴰ (getD xs k d) xs

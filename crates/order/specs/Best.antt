@@ -14,7 +14,7 @@ use Prim.Native.Nat.{ℕ, suc}
 use mathlib.Core.Bool.{Bool, true, false, cond, not, _&&_, _||_}
 use mathlib.Core.List.{List, [], _∷_}
 use lib.Dec.{ltb, eqb}
-use Rattle.choice.specs.declared.Best.{Best}
+use Rattle.order.specs.declared.Best.{Best}
 
 unfoldable pub comesBefore : ℕ → ℕ → ℕ → ℕ → Bool
 comesBefore p n q m = ltb q p || (eqb p q && ltb n m)

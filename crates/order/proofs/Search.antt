@@ -15,7 +15,7 @@ use lib.Dec.{ltb}
 use borrow.Author.Tests.{ltb-true, ltb-false}
 use lib.ListN.{length, take, drop, getD}
 use lib.Seq.{drop-cons}
-use Rattle.choice.specs.Best.{anyOf}
+use Rattle.order.specs.Best.{anyOf}
 
 module _ {A : Type 0} (ok : A → Bool) (xs : List A) (d : A) (n i : ℕ) (h : i < n) (k : i < length xs) where
   step : anyOf ok (take (n - i) (drop i xs)) ≡ ok (getD xs i d) || anyOf ok (take (n - (i + 1)) (drop (i + 1) xs))

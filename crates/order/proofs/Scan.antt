@@ -17,10 +17,10 @@ use borrow.Author.Tests.{eq-eqb, ne-eqb}
 use lib.Dec.{eqb}
 use lib.ListN.{length, take, drop, getD, length-append, length-take, drop-of-length-le}
 use lib.Seq.{drop-cons, getD-take, append-snoc}
-use Rattle.choice.specs.declared.Best.{Best}
-use Rattle.choice.specs.Best.{comesBefore, bestPlace, isBetter, bestAfter}
-use Rattle.choice.proofs.Order.{comesBefore-trans, comesBefore-past}
-use Rattle.choice.proofs.Places.{clash, bestPlace-none, bestPlace-at}
+use Rattle.order.specs.declared.Best.{Best}
+use Rattle.order.specs.Best.{comesBefore, bestPlace, isBetter, bestAfter}
+use Rattle.order.proofs.Order.{comesBefore-trans, comesBefore-past}
+use Rattle.order.proofs.Places.{clash, bestPlace-none, bestPlace-at}
 
 abbrev pub nothing : Best
 nothing = record { place = 32; priority = 0; number = 0 }

@@ -14,8 +14,8 @@ use Prim.Native.Nat.{ℕ, suc, _≤_, _<_}
 use native.Mathlib.Nat.{le-refl}
 use native.Mathlib.Omega.{arith}
 use lib.ListN.{length}
-use Rattle.choice.specs.Best.{comesBefore, anyOf, firstPlace, isBest, bestPlace}
-use Rattle.choice.proofs.Order.{comesBefore-self, comesBefore-asym}
+use Rattle.order.specs.Best.{comesBefore, anyOf, firstPlace, isBest, bestPlace}
+use Rattle.order.proofs.Order.{comesBefore-self, comesBefore-asym}
 
 pub clash : {b : Bool} → b ≡ true → b ≡ false → ⊥
 clash u v = let z : _≡_ {A = ℕ} 0 1 = cc in omega arith

@@ -14,7 +14,7 @@ use native.Mathlib.Nat.{le-refl, le-of-eq}
 use native.Mathlib.Omega.{arith}
 use lib.Dec.{ltb, eqb}
 use borrow.Author.Tests.{ltb-true, ltb-false, eqb-true, eqb-false, lt-ltb, le-ltb, eq-eqb, ne-eqb}
-use Rattle.choice.specs.Best.{comesBefore}
+use Rattle.order.specs.Best.{comesBefore}
 
 module _ (p n q m : ℕ) where
   pub comesBefore-yes : comesBefore p n q m ≡ true → (q < p) ⊎ ((p ≡ q) × (n < m))

@@ -1,11 +1,11 @@
--- `choice::is_better` gives `isBetter`: none so far, then another priority, then the number.
+-- `order::is_better` gives `isBetter`: none so far, then another priority, then the number.
 -- Trusts: nothing.
 use borrow.Author.Tests.{eq-eqb, ne-eqb, le-ltb}
 use mathlib.Core.Bool.{or-false}
 use native.Mathlib.Nat.{le-of-eq}
-use Rattle.choice.specs.Best.{isBetter, comesBefore}
-use Rattle.choice.proofs.is_better.Statement.{statement}
-use Rattle.choice.proofs.is_better.Tie as tie
+use Rattle.order.specs.Best.{isBetter, comesBefore}
+use Rattle.order.proofs.is_better.Statement.{statement}
+use Rattle.order.proofs.is_better.Tie as tie
 
 returns : tie.Need-returns
 unfolding isBetter
