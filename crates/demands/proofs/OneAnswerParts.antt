@@ -19,8 +19,8 @@ use Rattle.table.proofs.empty_rule.Reads as empty_rule
 use Rattle.table.proofs.empty_classifier.Reads as empty_classifier
 use Rattle.table.proofs.empty_table.Reads as empty_table
 use Rattle.elements.proofs.read_head.Reads as read_head
-use Rattle.elements.proofs.types.find_type.Reads as find_type
-use Rattle.elements.proofs.types.lacks_must.Reads as lacks_must
+use Rattle.types.proofs.find_type.Reads as find_type
+use Rattle.types.proofs.lacks_must.Reads as lacks_must
 use Rattle.element_tests.proofs.own_tests.Reads as own_tests
 use Rattle.rows.proofs.empty_tally.Reads as empty_tally
 use Rattle.rows.proofs.test_element.Reads as test_element
@@ -80,16 +80,18 @@ empty_classifier-one κs = only (parts.empty_classifier-gives κs)
 pub empty_table-one : (κs : Lfts 0) → One answer (empty_table.Post κs)
 empty_table-one κs = only (parts.empty_table-gives κs)
 
--- ---- elements
-
-pub read_head-one : (κs : Lfts 1) → One answer (read_head.Post κs)
-read_head-one κs = only (parts.read_head-gives κs)
+-- ---- types
 
 pub find_type-one : (κs : Lfts 0) → One answer (find_type.Post κs)
 find_type-one κs = only (parts.find_type-gives κs)
 
 pub lacks_must-one : (κs : Lfts 1) → One answer (lacks_must.Post κs)
 lacks_must-one κs = only (parts.lacks_must-gives κs)
+
+-- ---- elements
+
+pub read_head-one : (κs : Lfts 1) → One answer (read_head.Post κs)
+read_head-one κs = only (parts.read_head-gives κs)
 
 -- ---- element_tests
 
