@@ -15,8 +15,8 @@ use borrow.Author.Tests.{eqb-true, eqb-false, leb-false}
 use lib.ListN.{length, getD, length-set}
 use lib.Seq.{set-out, getD-set-same, getD-set-other}
 use lib.Dec.{eqb}
-use Rattle.elements.specs.Places.{typeUnder}
-use Rattle.elements.specs.declared.types.Known.{Known}
+use Rattle.types.specs.Places.{typeUnder}
+use Rattle.types.specs.declared.Known.{Known}
 use Rattle.element_tests.specs.Tests.{stepped, secondCopy, wrongLength, badValue, isFull, ownTests}
 use Rattle.rows.specs.Tests.{isRow}
 use Rattle.rows.specs.Rows.{elementWith, noted}

@@ -13,8 +13,8 @@ use borrow.Author.Tests.{eqb-true, eqb-false}
 use lib.ListN.{length, getD}
 use lib.Dec.{eqb}
 use Rattle.elements.specs.Elements.{headAt}
-use Rattle.elements.specs.Types.{knownTypes}
-use Rattle.elements.specs.Places.{childOf, under, placed, typeOf, parentIn, table, lineAt, placeIn, knownAt, typeUnder}
+use Rattle.types.specs.Types.{knownTypes}
+use Rattle.types.specs.Places.{childOf, under, placed, typeOf, parentIn, table, lineAt, placeIn, knownAt, typeUnder}
 use Rattle.elements.specs.declared.Head.{Head}
 use Rattle.elements.specs.declared.Head.the-variants.{End, Refused, Value}
 use Rattle.element_tests.specs.Tests.{stepped}

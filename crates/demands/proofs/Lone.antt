@@ -20,8 +20,8 @@ use lib.Seq.{take-all}
 use Rattle.numbers.specs.Numbers.{numberAt}
 use Rattle.wire.specs.Bytes.{pasted}
 use Rattle.elements.specs.Elements.{headAt}
-use Rattle.elements.specs.Types.{knownTypes}
-use Rattle.elements.specs.Places.{childOf, under, placed, typeOf, parentIn, table, lineAt, placeIn, knownAt, typeUnder, missingIn, lacksMust}
+use Rattle.types.specs.Types.{knownTypes}
+use Rattle.types.specs.Places.{childOf, under, placed, typeOf, parentIn, table, lineAt, placeIn, knownAt, typeUnder, missingIn, lacksMust}
 use Rattle.table.specs.Table.{rulesOf, classifiersOf, numbersOf, emptyTable}
 use Rattle.table.specs.declared.Classifier.{Classifier}
 use Rattle.table.specs.declared.Table.{Table}

@@ -19,8 +19,8 @@ use Rattle.table.proofs.empty_rule.Reads as empty_rule
 use Rattle.table.proofs.empty_classifier.Reads as empty_classifier
 use Rattle.table.proofs.empty_table.Reads as empty_table
 use Rattle.elements.proofs.read_head.Reads as read_head
-use Rattle.elements.proofs.types.find_type.Reads as find_type
-use Rattle.elements.proofs.types.lacks_must.Reads as lacks_must
+use Rattle.types.proofs.find_type.Reads as find_type
+use Rattle.types.proofs.lacks_must.Reads as lacks_must
 use Rattle.element_tests.proofs.own_tests.Reads as own_tests
 use Rattle.rows.proofs.empty_tally.Reads as empty_tally
 use Rattle.rows.proofs.test_element.Reads as test_element
@@ -33,9 +33,9 @@ use Rattle.named.proofs.lone_number.Reads as lone_number
 use Rattle.collection.proofs.begin.Reads as begin
 use Rattle.collection.proofs.is_of.Reads as is_of
 use Rattle.collection.proofs.refuse.Reads as refuse
-use Rattle.matching.proofs.wrong_length.Reads as wrong_length
+use Rattle.packets.proofs.wrong_length.Reads as wrong_length
+use Rattle.packets.proofs.read_packet.Reads as read_packet
 use Rattle.matching.proofs.names_number.Reads as names_number
-use Rattle.matching.proofs.read_packet.Reads as read_packet
 use Rattle.matching.proofs.entry_of.Reads as entry_of
 use Rattle.matching.proofs.fits_packet.Reads as fits_packet
 use Rattle.bodies.proofs.list_body.Reads as list_body
@@ -80,16 +80,18 @@ empty_classifier-one κs = only (parts.empty_classifier-gives κs)
 pub empty_table-one : (κs : Lfts 0) → One answer (empty_table.Post κs)
 empty_table-one κs = only (parts.empty_table-gives κs)
 
--- ---- elements
-
-pub read_head-one : (κs : Lfts 1) → One answer (read_head.Post κs)
-read_head-one κs = only (parts.read_head-gives κs)
+-- ---- types
 
 pub find_type-one : (κs : Lfts 0) → One answer (find_type.Post κs)
 find_type-one κs = only (parts.find_type-gives κs)
 
 pub lacks_must-one : (κs : Lfts 1) → One answer (lacks_must.Post κs)
 lacks_must-one κs = only (parts.lacks_must-gives κs)
+
+-- ---- elements
+
+pub read_head-one : (κs : Lfts 1) → One answer (read_head.Post κs)
+read_head-one κs = only (parts.read_head-gives κs)
 
 -- ---- element_tests
 
@@ -137,16 +139,18 @@ is_of-one κs = only (parts.is_of-gives κs)
 pub refuse-one : (κs : Lfts 1) → One answer (refuse.Post κs)
 refuse-one κs = only (parts.refuse-gives κs)
 
--- ---- matching
+-- ---- packets
 
 pub wrong_length-one : (κs : Lfts 1) → One answer (wrong_length.Post κs)
 wrong_length-one κs = only (parts.wrong_length-gives κs)
 
-pub names_number-one : (κs : Lfts 0) → One answer (names_number.Post κs)
-names_number-one κs = only (parts.names_number-gives κs)
-
 pub read_packet-one : (κs : Lfts 1) → One answer (read_packet.Post κs)
 read_packet-one κs = only (parts.read_packet-gives κs)
+
+-- ---- matching
+
+pub names_number-one : (κs : Lfts 0) → One answer (names_number.Post κs)
+names_number-one κs = only (parts.names_number-gives κs)
 
 pub entry_of-one : (κs : Lfts 0) → One answer (entry_of.Post κs)
 entry_of-one κs = only (parts.entry_of-gives κs)

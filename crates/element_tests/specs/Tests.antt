@@ -4,18 +4,18 @@
 --   ownTests msg known at len count             the first of them, at the type byte; else 0, and one more in the type's list
 --
 -- `count` is how many elements of the type's list stand before this one in its row. A step with bad 0 is fine; it names the list that
--- the element is counted in and the count after it. Which lengths, values and rooms a type has is said by the table of the crate elements.
+-- the element is counted in and the count after it. Which lengths, values and rooms a type has is said by the table of the crate types.
 -- Tested by: the bench messages that end in 9 and 11 (proofs/Bench.antt of rows). Trusts: nothing.
 use Prim.Native.Nat.{ℕ, _+_, _%_}
 use mathlib.Core.Bool.{Bool, false, cond, not, _&&_, _||_}
 use mathlib.Core.List.{List}
 use lib.Dec.{eqb, leb, ltb}
 use Rattle.numbers.specs.Numbers.{numberAt}
-use Rattle.elements.specs.declared.types.Length.{Length}
-use Rattle.elements.specs.declared.types.Length.the-variants.{Row, Bytes, NoneOr, OrMore}
-use Rattle.elements.specs.declared.types.Values.{Values}
-use Rattle.elements.specs.declared.types.Values.the-variants.{Any, NotZero, Channel}
-use Rattle.elements.specs.declared.types.Known.{Known}
+use Rattle.types.specs.declared.Length.{Length}
+use Rattle.types.specs.declared.Length.the-variants.{Row, Bytes, NoneOr, OrMore}
+use Rattle.types.specs.declared.Values.{Values}
+use Rattle.types.specs.declared.Values.the-variants.{Any, NotZero, Channel}
+use Rattle.types.specs.declared.Known.{Known}
 use Rattle.element_tests.specs.declared.Step.{Step}
 
 -- what an element comes to: a refusal number, or 0; where; and the count of one list of its row

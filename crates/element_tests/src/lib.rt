@@ -2,9 +2,9 @@
 //
 // One public function, `own_tests`. It takes any message, type, place, length and count, and writes nothing: a refusal is an
 // answer. That the value is a row, and what stands in it, is not its matter.
-use elements::types::Known;
-use elements::types::Length;
-use elements::types::Values;
+use types::Known;
+use types::Length;
+use types::Values;
 ghost use mathlib.Core.Path.{_≡_};
 ghost use Prim.Native.Nat.{ℕ, _+_};
 ghost use Rattle.numbers.specs.Numbers.{numberAt};

@@ -1,6 +1,2 @@
--- Laws: what proofs here and above may know of headAt. LawsTypes: the same of the known types. LawsColumns: of the code's columns.
--- LawsPlaces: of the look-up, place by place.
+-- Laws: what proofs here and above may know of headAt.
 pub mod Laws
-pub mod LawsTypes
-pub mod LawsColumns
-pub mod LawsPlaces

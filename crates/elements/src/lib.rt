@@ -2,12 +2,9 @@
 //
 // `read_head` takes any message, any place and any end of a row and has no `requires`: bad input is
 // an answer (6, 7 or 8), never a duty of the caller. It looks at no value and writes nothing.
-// The module `types` has the known types and their look-up.
 ghost use mathlib.Core.Path.{_≡_};
 ghost use Prim.Native.Nat.{min};
 ghost use Rattle.elements.specs.Elements.{headAt};
-
-pub mod types;
 
 // What stands at a place of a row.
 pub enum Head {

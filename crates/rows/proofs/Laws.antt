@@ -18,11 +18,11 @@ use lib.ListN.{length, getD, set}
 use lib.Seq.{set-out}
 use lib.Dec.{eqb}
 use Rattle.elements.specs.Elements.{headAt}
-use Rattle.elements.specs.Places.{typeUnder, lacksMust}
+use Rattle.types.specs.Places.{typeUnder, lacksMust}
 use Rattle.elements.proofs.Laws.{headAt-end, headAt-ends, headAt-starts, headAt-fits}
 use Rattle.elements.specs.declared.Head.{Head}
 use Rattle.elements.specs.declared.Head.the-variants.{End, Refused, Value}
-use Rattle.elements.specs.declared.types.Known.{Known}
+use Rattle.types.specs.declared.Known.{Known}
 use Rattle.element_tests.specs.Tests.{stepped, secondCopy, wrongLength, badValue, isFull, ownTests}
 use Rattle.rows.specs.Tests.{isRow, rowEnd, noneCounted}
 use Rattle.rows.specs.Rows.{elementWith, noted, goOn, onHead, rowStep, rowFrom, rowOf, elementOf, tested, testedAt}

@@ -7,10 +7,10 @@ use Prim.Native.Nat.{ℕ, _+_}
 use borrow.Author.Tests.{eq-eqb, ne-eqb}
 use lib.ListN.{length, getD}
 use Rattle.elements.specs.Elements.{headAt}
-use Rattle.elements.specs.Places.{typeUnder}
+use Rattle.types.specs.Places.{typeUnder}
 use Rattle.elements.specs.declared.Head.{Head}
 use Rattle.elements.specs.declared.Head.the-variants.{End, Refused, Value}
-use Rattle.elements.specs.declared.types.Known.{Known}
+use Rattle.types.specs.declared.Known.{Known}
 use Rattle.element_tests.specs.Tests.{stepped, ownTests}
 use Rattle.rows.specs.Tests.{isRow, rowEnd, noneCounted}
 use Rattle.rows.specs.Rows.{elementWith, elementOf, noted, rowStep, rowOf, testedAt}

@@ -13,7 +13,7 @@ use mathlib.Core.List.{List}
 use lib.ListN.{length, getD, set}
 use lib.Dec.{eqb}
 use Rattle.elements.specs.Elements.{headAt}
-use Rattle.elements.specs.Places.{typeUnder}
+use Rattle.types.specs.Places.{typeUnder}
 use Rattle.elements.specs.declared.Head.{Head}
 use Rattle.elements.specs.declared.Head.the-variants.{End, Refused, Value}
 use Rattle.element_tests.specs.Tests.{stepped, ownTests}

@@ -5,15 +5,15 @@
 --   noneCounted, emptyTally                     the counts of a row that begins
 --
 -- `counts` has, for each list of the row, how many elements of it stand before this one; list 8 means none. A fault with bad 0 is fine.
--- Which musts a row has is said by the table of the crate elements.
+-- Which musts a row has is said by the table of the crate types.
 -- Tested by: the bench message that ends in 13 (proofs/Bench.antt). Trusts: nothing.
 use Prim.Native.Nat.{ℕ}
 use mathlib.Core.Bool.{Bool, true, false, cond}
 use mathlib.Core.List.{List}
 use lib.ListN.{replicate}
-use Rattle.elements.specs.Places.{lacksMust}
-use Rattle.elements.specs.declared.types.Length.{Length}
-use Rattle.elements.specs.declared.types.Length.the-variants.{Row, Bytes, NoneOr, OrMore}
+use Rattle.types.specs.Places.{lacksMust}
+use Rattle.types.specs.declared.Length.{Length}
+use Rattle.types.specs.declared.Length.the-variants.{Row, Bytes, NoneOr, OrMore}
 use Rattle.rows.specs.declared.Tally.{Tally}
 use Rattle.rows.specs.declared.Fault.{Fault}
 

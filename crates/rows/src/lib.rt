@@ -9,7 +9,7 @@
 // the length of the message.
 use element_tests::Step;
 use elements::Head;
-use elements::types::Length;
+use types::Length;
 ghost use mathlib.Core.Path.{_≡_};
 ghost use Prim.Native.Nat.{_+_, _≤_, _<_};
 ghost use lib.ListN.{length};
@@ -61,7 +61,7 @@ pub fn empty_tally() -> Tally
 fn row_end(parent: usize, own: usize, counts: &[u8; 8]) -> Fault
     ensures { λ r. ⌜ r ≡ rowEnd parent own (now (counts .entry)) ⌝ }
 {
-    if elements::types::lacks_must(parent, counts) {
+    if types::lacks_must(parent, counts) {
         return Fault { bad: 13, off: own };
     }
     Fault { bad: 0, off: own }
@@ -73,9 +73,9 @@ fn element(message: &[u8], parent: usize, at: usize, len: usize, counts: &[u8; 8
     requires { ⌜ at + 2 + len ≤ length (now message) ⌝ }
     ensures { λ r. ⌜ r ≡ elementOf (now (message .entry)) parent at len (now (counts .entry)) ⌝ }
 {
-    let known = elements::types::find_type(parent, message[at]);
+    let known = types::find_type(parent, message[at]);
     let place = known.place;
-    if place == elements::types::UNLISTED {
+    if place == types::UNLISTED {
         return Step {
             bad: 0,
             off: at,
@@ -159,9 +159,9 @@ pub fn test_element(message: &[u8], at: usize, tally: Tally) -> Tested
             tally,
         },
         Head::Value(len) => {
-            let known = elements::types::find_type(elements::types::TOP_LEVEL, message[at]);
+            let known = types::find_type(types::TOP_LEVEL, message[at]);
             let place = known.place;
-            if place == elements::types::UNLISTED {
+            if place == types::UNLISTED {
                 return Tested {
                     bad: 0,
                     off: at,
@@ -170,7 +170,7 @@ pub fn test_element(message: &[u8], at: usize, tally: Tally) -> Tested
                 };
             }
             let counts = tally.counts;
-            let step = element(message, elements::types::TOP_LEVEL, at, len, &counts);
+            let step = element(message, types::TOP_LEVEL, at, len, &counts);
             let list = step.list;
             if list < NO_LIST {
                 let mut after = tally;

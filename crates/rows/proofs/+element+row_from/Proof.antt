@@ -12,7 +12,7 @@ use lib.Seq.{set-out}
 use borrow.Fn.Kinds.{In}
 use borrow.Fn.PlainCycle.{Measures, is, falls, and}
 use Rattle.elements.proofs.Laws.{headAt-fits}
-use Rattle.elements.proofs.LawsTypes.{typeUnder-list}
+use Rattle.types.proofs.LawsTypes.{typeUnder-list}
 use Rattle.rows.specs.Tests.{noneCounted}
 use Rattle.rows.specs.Rows.{rowOf}
 use Rattle.rows.proofs.Ways.{row-ends, row-bad, row-stops, row-goes, elem-unlisted, elem-own, elem-leaf, elem-inner, elem-row}
@@ -23,7 +23,7 @@ use Rattle.rows.proofs.row_from.Reads as row-from
 use Rattle.rows.proofs.row_from.Kinds as row-from-kinds
 use Rattle.rows.proofs.+element+row_from.Lts-row_from as row-from-lts
 use Rattle.elements.proofs.read_head.Reads as read-head-reads
-use Rattle.elements.proofs.types.find_type.Reads as find-type-reads
+use Rattle.types.proofs.find_type.Reads as find-type-reads
 use Rattle.rows.proofs.is_row.Reads as is-row-reads
 use Rattle.element_tests.proofs.own_tests.Reads as own-tests-reads
 use Rattle.rows.proofs.row_end.Reads as row-end-reads
