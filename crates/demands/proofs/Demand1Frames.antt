@@ -27,7 +27,7 @@ use Rattle.prepared.specs.declared.Tunnel.{Tunnel}
 use Rattle.tunnel.specs.declared.Verdict.{Verdict}
 use Rattle.tunnel.specs.declared.Verdict.the-variants as verdict
 use Rattle.matching.specs.Entry.{matchesEntry}
-use Rattle.matching.specs.Match.{wrongLength, addressAt}
+use Rattle.packets.specs.Packets.{wrongLength, addressAt}
 use Rattle.tunnel.specs.Judge.{matchPlace, ruleVerdict, choiceVerdict, verdictOf}
 use Rattle.prepared.specs.Prepared.{entriesOf, preparedVerdict}
 use Rattle.modem_record.specs.declared.Modem.{Modem}

@@ -33,9 +33,9 @@ use Rattle.named.proofs.lone_number.Reads as lone_number
 use Rattle.collection.proofs.begin.Reads as begin
 use Rattle.collection.proofs.is_of.Reads as is_of
 use Rattle.collection.proofs.refuse.Reads as refuse
-use Rattle.matching.proofs.wrong_length.Reads as wrong_length
+use Rattle.packets.proofs.wrong_length.Reads as wrong_length
+use Rattle.packets.proofs.read_packet.Reads as read_packet
 use Rattle.matching.proofs.names_number.Reads as names_number
-use Rattle.matching.proofs.read_packet.Reads as read_packet
 use Rattle.matching.proofs.entry_of.Reads as entry_of
 use Rattle.matching.proofs.fits_packet.Reads as fits_packet
 use Rattle.bodies.proofs.list_body.Reads as list_body
@@ -139,16 +139,18 @@ is_of-one κs = only (parts.is_of-gives κs)
 pub refuse-one : (κs : Lfts 1) → One answer (refuse.Post κs)
 refuse-one κs = only (parts.refuse-gives κs)
 
--- ---- matching
+-- ---- packets
 
 pub wrong_length-one : (κs : Lfts 1) → One answer (wrong_length.Post κs)
 wrong_length-one κs = only (parts.wrong_length-gives κs)
 
-pub names_number-one : (κs : Lfts 0) → One answer (names_number.Post κs)
-names_number-one κs = only (parts.names_number-gives κs)
-
 pub read_packet-one : (κs : Lfts 1) → One answer (read_packet.Post κs)
 read_packet-one κs = only (parts.read_packet-gives κs)
+
+-- ---- matching
+
+pub names_number-one : (κs : Lfts 0) → One answer (names_number.Post κs)
+names_number-one κs = only (parts.names_number-gives κs)
 
 pub entry_of-one : (κs : Lfts 0) → One answer (entry_of.Post κs)
 entry_of-one κs = only (parts.entry_of-gives κs)

@@ -1,4 +1,4 @@
--- Parts: what the public functions of the lower crates give (wire, table, types, elements, element_tests, rows, clients, rules, classifiers, configurations, named, collection, matching, listing, bodies): each its definition, for every input.
+-- Parts: what the public functions of the lower crates give (wire, table, types, elements, element_tests, rows, clients, rules, classifiers, configurations, named, collection, packets, matching, listing, bodies): each its definition, for every input.
 --
 -- It says nothing of what the definitions mean; docs/MAP.md says where they stand. `met` of each function, in its own crate, says that the
 -- compiled function meets the contract cited here.
@@ -50,11 +50,12 @@ use Rattle.collection.specs.Refusals.{refusalOf}
 use Rattle.collection.proofs.begin.Reads as begin
 use Rattle.collection.proofs.is_of.Reads as is_of
 use Rattle.collection.proofs.refuse.Reads as refuse
-use Rattle.matching.specs.Match.{wrongLength, namesNumber}
-use Rattle.matching.specs.Entry.{packetOf, entryOf, fitsPacket}
-use Rattle.matching.proofs.wrong_length.Reads as wrong_length
+use Rattle.packets.specs.Packets.{wrongLength, packetOf}
+use Rattle.packets.proofs.wrong_length.Reads as wrong_length
+use Rattle.packets.proofs.read_packet.Reads as read_packet
+use Rattle.matching.specs.Match.{namesNumber}
+use Rattle.matching.specs.Entry.{entryOf, fitsPacket}
 use Rattle.matching.proofs.names_number.Reads as names_number
-use Rattle.matching.proofs.read_packet.Reads as read_packet
 use Rattle.matching.proofs.entry_of.Reads as entry_of
 use Rattle.matching.proofs.fits_packet.Reads as fits_packet
 use Rattle.listing.specs.Text.{tableText, refusalText, waitingText}
@@ -161,16 +162,18 @@ is_of-gives κs a x s h = h
 pub refuse-gives : (κs : Lfts 1) → Gives answer (refuse.Post κs) (λ a. refusalOf (a .0) (a .1 .0) (now (a .1 .1 .0)))
 refuse-gives κs a x s h = h
 
--- ---- matching
+-- ---- packets
 
 pub wrong_length-gives : (κs : Lfts 1) → Gives answer (wrong_length.Post κs) (λ a. wrongLength (now (a .0)))
 wrong_length-gives κs a x s h = h
 
-pub names_number-gives : (κs : Lfts 0) → Gives answer (names_number.Post κs) (λ a. namesNumber (a .0) (a .1 .0))
-names_number-gives κs a x s h = h
-
 pub read_packet-gives : (κs : Lfts 1) → Gives answer (read_packet.Post κs) (λ a. packetOf (now (a .0)))
 read_packet-gives κs a x s h = h
+
+-- ---- matching
+
+pub names_number-gives : (κs : Lfts 0) → Gives answer (names_number.Post κs) (λ a. namesNumber (a .0) (a .1 .0))
+names_number-gives κs a x s h = h
 
 pub entry_of-gives : (κs : Lfts 0) → Gives answer (entry_of.Post κs) (λ a. entryOf (a .0))
 entry_of-gives κs a x s h = h

@@ -1,6 +1,5 @@
 -- An entry matches where its classifier does (specs/Match.antt, specs/Entry.antt).
 --
---   packetOf-ipv4                          a packet says whether the frame is one of IPv4
 --   matchesEntry-ipv4, matchesEntry-not    of an IPv4 packet the parts decide; of another, nothing matches
 --   matchesFrame-not                       the same of a classifier
 --   matchesEntry-of                        the entry of a classifier matches where the classifier does
@@ -13,25 +12,12 @@ use lib.Bits.{bitAnd, and-zero-r}
 use lib.Dec.{eqb}
 use Rattle.table.specs.declared.Classifier.{Classifier}
 use Rattle.table.specs.Table.{isPresent}
-use Rattle.matching.specs.declared.Packet.{Packet}
+use Rattle.packets.specs.declared.Packet.{Packet}
+use Rattle.packets.specs.Packets.{isIpv4, sourceAt, destinationAt, packetOf}
+use Rattle.packets.proofs.Laws.{full, none, packetOf-ipv4}
 use Rattle.matching.specs.declared.Entry.{Entry}
-use Rattle.matching.specs.Match.{isIpv4, sourceAt, destinationAt, portWithin, maskOf, startOf, endOf, fitsSource, fitsPort, matchesFrame}
-use Rattle.matching.specs.Entry.{packetOf, entryOf, fitsPacket, matchesEntry}
-
--- the packet of an IPv4 frame, and of any other
-abbrev full : List ℕ → Packet
-full frame = record { ipv4 = true; destination = destinationAt frame; source = sourceAt frame }
-
-abbrev none : Packet
-none = record { ipv4 = false; destination = 0; source = 0 }
-
-pub packetOf-ipv4 : (frame : List ℕ) → packetOf frame .ipv4 ≡ isIpv4 frame
-unfolding packetOf
-packetOf-ipv4 frame = go (isIpv4 frame)
-  where
-    go : (b : Bool) → cond b (full frame) none .ipv4 ≡ b
-    go true = refl
-    go false = refl
+use Rattle.matching.specs.Match.{portWithin, maskOf, startOf, endOf, fitsSource, fitsPort, matchesFrame}
+use Rattle.matching.specs.Entry.{entryOf, fitsPacket, matchesEntry}
 
 module _ (frame : List ℕ) (p : Packet) (e : p ≡ packetOf frame) where
   pub matchesEntry-ipv4 : p .ipv4 ≡ true → (en : Entry) → matchesEntry frame en ≡ fitsPacket frame p en

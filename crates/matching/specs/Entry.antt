@@ -1,6 +1,5 @@
--- Entry: a classifier with its absent parts filled in, and what of a frame it is compared with.
+-- Entry: a classifier with its absent parts filled in, and whether a packet fits it.
 --
---   packetOf frame        the addresses of a frame; 0 where it is no IPv4 packet
 --   entryOf cl            the entry of a classifier: no source is mask 0 and source 0
 --   fitsPacket frame p e  whether an IPv4 packet, with the frame's port, fits an entry
 --   matchesEntry frame e  whether an entry matches a frame
@@ -8,21 +7,16 @@
 -- That `matchesEntry frame (entryOf cl)` is `matchesFrame frame cl` is a law in proofs/Entries.antt.
 -- Trusts: nothing.
 use Prim.Native.Nat.{ℕ}
-use mathlib.Core.Bool.{Bool, true, false, cond, not, _&&_, _||_}
+use mathlib.Core.Bool.{Bool, cond, not, _&&_, _||_}
 use mathlib.Core.List.{List}
 use lib.Bits.{bitAnd}
 use lib.Dec.{eqb}
 use Rattle.table.specs.declared.Classifier.{Classifier}
 use Rattle.table.specs.Table.{isPresent}
-use Rattle.matching.specs.declared.Packet.{Packet}
+use Rattle.packets.specs.declared.Packet.{Packet}
+use Rattle.packets.specs.Packets.{packetOf}
 use Rattle.matching.specs.declared.Entry.{Entry}
-use Rattle.matching.specs.Match.{isIpv4, sourceAt, destinationAt, portWithin, presentOr, maskOf, startOf, endOf}
-
-unfoldable pub packetOf : List ℕ → Packet
-packetOf frame =
-    cond (isIpv4 frame)
-    (record { ipv4 = true; destination = destinationAt frame; source = sourceAt frame })
-    (record { ipv4 = false; destination = 0; source = 0 })
+use Rattle.matching.specs.Match.{portWithin, presentOr, maskOf, startOf, endOf}
 
 -- 1 where one of two marks says present
 abbrev pub portsOf : ℕ → ℕ → ℕ

@@ -1,10 +1,7 @@
--- Match: whether a frame has a right length, and whether a classifier matches it (document 01, "Choosing and judging").
+-- Match: whether a rule names a classifier, and whether a classifier matches a frame (document 01, "Choosing and judging").
 --
---   wrongLength frame      under 14 or over 1,518 bytes
---   addressAt frame        the number of the first six bytes
 --   namesNumber rule n     the rule names the classifier number n
---   isIpv4 frame           EtherType 0800, length 34 or more, IP version 4
---   sourceAt, destinationAt, portAt   the source and destination address, the destination port: behind a header of 20 bytes
+--   portAt frame           the destination port: behind a header of 20 bytes
 --   hasPort frame          protocol 6 or 17, fragment offset 0 (13 bits), length 38 or more
 --   portWithin frame a e   the frame has a port, and a <= port <= e
 --   presentOr mark v w     the value v of a part whose mark says present, else w
@@ -14,35 +11,21 @@
 --
 -- Lengths are the frame's. A byte beyond the frame's end counts as 0, and no condition looks at one.
 -- Tested by: random frames against the other program. Trusts: nothing.
-use Prim.Native.Nat.{ℕ, _/_, _%_}
+use Prim.Native.Nat.{ℕ, _%_}
 use mathlib.Core.Bool.{Bool, cond, not, _&&_, _||_}
 use mathlib.Core.List.{List}
 use lib.Bits.{bitAnd}
 use lib.ListN.{length, getD}
-use lib.Dec.{ltb, leb, eqb}
+use lib.Dec.{leb, eqb}
 use Rattle.table.specs.declared.Rule.{Rule}
 use Rattle.table.specs.declared.Classifier.{Classifier}
 use Rattle.table.specs.Table.{isPresent, numbersOf}
 use Rattle.numbers.specs.Numbers.{numberAt}
 use Rattle.choice.specs.Best.{anyOf}
-
-unfoldable pub wrongLength : List ℕ → Bool
-wrongLength frame = ltb (length frame) 14 || ltb 1518 (length frame)
-
-unfoldable pub addressAt : List ℕ → ℕ
-addressAt frame = numberAt 6 frame 0
+use Rattle.packets.specs.Packets.{isIpv4, sourceAt, destinationAt}
 
 unfoldable pub namesNumber : Rule → ℕ → Bool
 namesNumber rule n = anyOf (eqb n) (numbersOf rule)
-
-unfoldable pub isIpv4 : List ℕ → Bool
-isIpv4 frame = leb 34 (length frame) && (eqb (numberAt 2 frame 12) 2048 && eqb (getD frame 14 0 / 16) 4)
-
-unfoldable pub sourceAt : List ℕ → ℕ
-sourceAt frame = numberAt 4 frame 26
-
-unfoldable pub destinationAt : List ℕ → ℕ
-destinationAt frame = numberAt 4 frame 30
 
 unfoldable pub portAt : List ℕ → ℕ
 portAt frame = numberAt 2 frame 36

@@ -1,24 +1,17 @@
-// Whether a classifier matches a frame, and whether a rule names it (document 01, "Choosing and judging").
+// Whether a classifier matches a packet, and whether a rule names it (document 01, "Choosing and judging").
 //
-// Public functions: `wrong_length` tests a frame's length, `read_packet` reads what every classifier looks
-// at, `entry_of` fills a classifier's absent parts in, `fits_packet` compares the two, `names_number` looks a
-// number up in a rule. All take any input and refuse nothing: a byte beyond the end counts as 0, a count
-// above its limit is read as the limit. The tests stand in the document's order; nothing is written.
+// Public functions: `entry_of` fills a classifier's absent parts in, `fits_packet` compares it with a packet,
+// `names_number` looks a number up in a rule. All take any input and refuse nothing: a byte beyond the end
+// counts as 0, a count above its limit is read as the limit. The tests stand in the document's order; nothing
+// is written.
 use numbers::number2;
-use numbers::number4;
+use packets::Packet;
 use table::Classifier;
 use table::Rule;
 use table::limited;
 ghost use mathlib.Core.Path.{_≡_};
-ghost use Rattle.matching.specs.Match.{wrongLength, namesNumber, isIpv4, hasPort, portWithin, presentOr};
-ghost use Rattle.matching.specs.Entry.{portsOf, entryOf, packetOf, fitsPacket};
-
-// What every classifier looks at in a frame: whether it is an IPv4 packet, and its addresses.
-pub struct Packet {
-    pub ipv4: bool,
-    pub destination: u32,
-    pub source: u32,
-}
+ghost use Rattle.matching.specs.Match.{namesNumber, hasPort, portWithin, presentOr};
+ghost use Rattle.matching.specs.Entry.{portsOf, entryOf, fitsPacket};
 
 // A classifier with its absent parts filled in; `ports` is 0 where it names no port.
 pub struct Entry {
@@ -29,16 +22,6 @@ pub struct Entry {
     pub end: u16,
     pub number: u16,
     pub ports: u8,
-}
-
-// Whether the frame is under 14 or over 1,518 bytes.
-pub fn wrong_length(frame: &[u8]) -> bool
-    ensures { λ r. ⌜ r ≡ wrongLength (now (frame .entry)) ⌝ }
-{
-    if frame.len() < 14 {
-        return true;
-    }
-    1518 < frame.len()
 }
 
 // Whether the rule names this classifier number.
@@ -57,19 +40,6 @@ pub fn names_number(rule: Rule, number: u16) -> bool
         j += 1;
     }
     false
-}
-
-// Whether the frame is an IPv4 packet of 34 bytes or more.
-fn is_ipv4(frame: &[u8]) -> bool
-    ensures { λ r. ⌜ r ≡ isIpv4 (now (frame .entry)) ⌝ }
-{
-    if frame.len() < 34 {
-        return false;
-    }
-    if number2(frame, 12) != 2048 {
-        return false;
-    }
-    frame[14] / 16 == 4
 }
 
 // Whether the packet has a port: protocol 6 or 17, no fragment behind the first, 38 bytes or more.
@@ -101,26 +71,6 @@ fn port_within(frame: &[u8], start: u16, end: u16) -> bool
         return false;
     }
     port <= end
-}
-
-// What every classifier looks at in the frame; 0 throughout where it is no IPv4 packet.
-pub fn read_packet(frame: &[u8]) -> Packet
-    ensures { λ r. ⌜ r ≡ packetOf (now (frame .entry)) ⌝ }
-{
-    if !is_ipv4(frame) {
-        return Packet {
-            ipv4: false,
-            destination: 0,
-            source: 0,
-        };
-    }
-    let destination = number4(frame, 30);
-    let source = number4(frame, 26);
-    Packet {
-        ipv4: true,
-        destination,
-        source,
-    }
 }
 
 // The mark's value where it is there, else the other.

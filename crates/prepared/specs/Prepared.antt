@@ -15,7 +15,7 @@ use lib.Dec.{ltb, eqb}
 use Rattle.table.specs.Table.{limitedTo}
 use Rattle.choice.specs.Best.{firstPlace}
 use Rattle.matching.specs.declared.Entry.{Entry}
-use Rattle.matching.specs.Match.{wrongLength, addressAt}
+use Rattle.packets.specs.Packets.{wrongLength, addressAt}
 use Rattle.matching.specs.Entry.{matchesEntry}
 use Rattle.tunnel.specs.declared.Verdict.{Verdict}
 use Rattle.tunnel.specs.declared.Verdict.the-variants.{Refused, Other, Forward, Filtered}

@@ -5,16 +5,16 @@
 // read as the limit. Crate `preparing` makes tunnels. Nothing that is lent is written.
 use matching::Entry;
 use matching::fits_packet;
-use matching::read_packet;
-use matching::wrong_length;
 use numbers::number2;
 use numbers::number4;
+use packets::read_packet;
+use packets::wrong_length;
 use table::limited;
 use tunnel::Verdict;
 ghost use mathlib.Core.Path.{_≡_};
 ghost use lib.Dec.{eqb};
 ghost use Rattle.choice.specs.Best.{firstPlace};
-ghost use Rattle.matching.specs.Match.{addressAt};
+ghost use Rattle.packets.specs.Packets.{addressAt};
 ghost use Rattle.matching.specs.Entry.{matchesEntry};
 ghost use Rattle.prepared.specs.Prepared.{lentTunnel, entriesOf, preparedVerdict};
 

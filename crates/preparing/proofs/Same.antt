@@ -26,7 +26,7 @@ use Rattle.matching.specs.declared.Entry.{Entry}
 use Rattle.prepared.specs.declared.Tunnel.{Tunnel}
 use Rattle.tunnel.specs.declared.Verdict.{Verdict}
 use Rattle.tunnel.specs.declared.Verdict.the-variants.{Refused, Other, Forward, Filtered}
-use Rattle.matching.specs.Match.{wrongLength, addressAt}
+use Rattle.packets.specs.Packets.{wrongLength, addressAt}
 use Rattle.tunnel.specs.Judge.{matchPlace, ruleVerdict, choiceVerdict, verdictOf}
 use Rattle.matching.specs.Entry.{entryOf, matchesEntry}
 use Rattle.preparing.specs.Order.{namedInOrder}

@@ -21,7 +21,7 @@ use Rattle.choice.specs.Choose.{fitsClient, choiceOf, ruleAt}
 use Rattle.choice.proofs.Fits.{choiceOf-none}
 use Rattle.tunnel.specs.declared.Verdict.{Verdict}
 use Rattle.tunnel.specs.declared.Verdict.the-variants.{Refused, Other, Forward}
-use Rattle.matching.specs.Match.{wrongLength, addressAt}
+use Rattle.packets.specs.Packets.{wrongLength, addressAt}
 use Rattle.tunnel.specs.Judge.{ruleVerdict, choiceVerdict, verdictOf}
 
 pub verdictOf-short : (t : Table) (c : Client) (u : Ucid) (frame : List ℕ) → wrongLength frame ≡ true → verdictOf t c u frame ≡ Refused 16

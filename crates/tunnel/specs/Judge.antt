@@ -25,7 +25,8 @@ use Rattle.choice.specs.Best.{bestPlace}
 use Rattle.choice.specs.Choose.{choiceOf, ruleAt}
 use Rattle.tunnel.specs.declared.Verdict.{Verdict}
 use Rattle.tunnel.specs.declared.Verdict.the-variants.{Refused, Other, Forward, Filtered}
-use Rattle.matching.specs.Match.{wrongLength, addressAt, namesNumber, matchesFrame}
+use Rattle.packets.specs.Packets.{wrongLength, addressAt}
+use Rattle.matching.specs.Match.{namesNumber, matchesFrame}
 
 unfoldable pub matchPlace : Table → Rule → List ℕ → ℕ
 matchPlace t rule frame =

@@ -17,10 +17,11 @@ use Rattle.choice.specs.declared.Best.{Best}
 use Rattle.choice.specs.Best.{bestPlace}
 use Rattle.choice.proofs.Places.{bestPlace-none}
 use Rattle.choice.proofs.Scan.{nothing, scan, scan-more, scan-end, scan-none, scan-some}
-use Rattle.matching.specs.declared.Packet.{Packet}
+use Rattle.packets.specs.declared.Packet.{Packet}
 use Rattle.matching.specs.Match.{matchesFrame, namesNumber}
 use Rattle.tunnel.specs.Judge.{matchPlace}
-use Rattle.matching.specs.Entry.{packetOf, entryOf, fitsPacket}
+use Rattle.packets.specs.Packets.{packetOf}
+use Rattle.matching.specs.Entry.{entryOf, fitsPacket}
 use Rattle.matching.proofs.Entries.{matchesEntry-ipv4, matchesEntry-of, matchesFrame-not}
 use Rattle.tunnel.proofs.match_place.Statement.{statement}
 use Rattle.tunnel.proofs.match_place.Tie as tie

@@ -1,11 +1,10 @@
--- `matching::read_packet` gives `packetOf`: no IPv4 packet, or its addresses.
+-- `packets::read_packet` gives `packetOf`: no IPv4 packet, or its addresses.
 -- Trusts: nothing.
 use borrow.Author.Needs.{needs}
 use borrow.Author.Tests.{not-true, not-false}
-use Rattle.matching.specs.Match.{sourceAt, destinationAt}
-use Rattle.matching.specs.Entry.{packetOf}
-use Rattle.matching.proofs.read_packet.Statement.{statement}
-use Rattle.matching.proofs.read_packet.Tie as tie
+use Rattle.packets.specs.Packets.{sourceAt, destinationAt, packetOf}
+use Rattle.packets.proofs.read_packet.Statement.{statement}
+use Rattle.packets.proofs.read_packet.Tie as tie
 
 returns : tie.Need-returns
 unfolding packetOf

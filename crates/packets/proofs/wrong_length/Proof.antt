@@ -1,9 +1,9 @@
--- `matching::wrong_length` gives `wrongLength`.
+-- `packets::wrong_length` gives `wrongLength`.
 -- Trusts: nothing.
 use borrow.Author.Tests.{lt-ltb, le-ltb}
-use Rattle.matching.specs.Match.{wrongLength}
-use Rattle.matching.proofs.wrong_length.Statement.{statement}
-use Rattle.matching.proofs.wrong_length.Tie as tie
+use Rattle.packets.specs.Packets.{wrongLength}
+use Rattle.packets.proofs.wrong_length.Statement.{statement}
+use Rattle.packets.proofs.wrong_length.Tie as tie
 
 returns : tie.Need-returns
 unfolding wrongLength

@@ -1,10 +1,10 @@
--- `matching::is_ipv4` gives `isIpv4`: the length, the EtherType, the version.
+-- `packets::is_ipv4` gives `isIpv4`: the length, the EtherType, the version.
 -- Trusts: nothing.
 use borrow.Author.Needs.{needs}
 use borrow.Author.Tests.{eq-eqb, ne-eqb, lt-leb, le-leb}
-use Rattle.matching.specs.Match.{isIpv4}
-use Rattle.matching.proofs.is_ipv4.Statement.{statement}
-use Rattle.matching.proofs.is_ipv4.Tie as tie
+use Rattle.packets.specs.Packets.{isIpv4}
+use Rattle.packets.proofs.is_ipv4.Statement.{statement}
+use Rattle.packets.proofs.is_ipv4.Tie as tie
 
 returns : tie.Need-returns
 unfolding isIpv4

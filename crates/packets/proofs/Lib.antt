@@ -1,0 +1,2 @@
+-- Laws: what proofs above may know of packetOf.
+pub mod Laws
