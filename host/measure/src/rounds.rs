@@ -1,5 +1,7 @@
 //! Runners timed in turns, so that whatever else the machine does falls on all of them alike.
 
+use std::io::{self, Write};
+use std::process;
 use std::time::{Duration, Instant};
 
 /// How many times each runner is timed.
@@ -79,7 +81,9 @@ pub fn print_line(what: &str, times: &[(&str, f64)]) {
     for (name, time) in &times[1..] {
         line += &format!("  {:.2} x {name}", times[0].1 / time);
     }
-    println!("{line}");
+    if writeln!(io::stdout(), "{line}").is_err() {
+        process::exit(1); // nobody reads on: there is nothing more to measure for
+    }
 }
 
 fn nanoseconds(time: f64) -> String {
