@@ -1,5 +1,6 @@
 -- Laws of a record and of the tests of a body (specs/Record.antt, specs/Refusals.antt).
 --
+--   mostFlag-div                     the greatest flag of a slot, as a quotient
 --   emptySlots-le, emptySlots-lt     at most n are empty; fewer where one is filled
 --   some-none, some-one              one slot more, empty or not, of the loop that looks for a filled one
 --   soundTo-at, soundTo-all          what it says of each slot; from each slot
@@ -8,23 +9,29 @@
 --   fits-of                          what a body that is not refused is like
 --   refusalOf-room                   the buffers are long enough, and the body's own tests are passed
 -- Trusts: nothing.
-use Prim.Native.Nat.{ℕ, zero, suc, _+_, _≤_, _<_}
+use Prim.Native.Nat.{ℕ, zero, suc, _+_, _-_, _/_, _≤_, _<_}
 use mathlib.Core.Path.{_≡_, refl, sym}
 use mathlib.Core.Bool.{Bool, true, false, cond, _||_}
 use mathlib.Core.List.{List}
 use mathlib.Core.Logic.{⊎-elim}
 use native.Mathlib.Omega.{arith}
-use native.Mathlib.Nat.{eq-or-lt-of-le, le-of-suc-le-suc}
+use native.Mathlib.Nat.{eq-or-lt-of-le, le-of-suc-le-suc, div-eq-of-lt, div-eq-of-lt-le}
 use native.Mathlib.Numerals.{add-one}
-use borrow.Author.Tests.{eqb-false, ltb-false, leb-true, ne-eqb, lt-ltb}
+use borrow.Author.Tests.{eqb-false, ltb-false, ltb-true, leb-true, ne-eqb, lt-ltb}
 use lib.ListN.{length, getD}
 use lib.Dec.{ltb, leb, eqb, leb·suc-suc}
 use Rattle.wire.proofs.Laws.{both}
-use Rattle.collection.specs.Record.{isFilled, emptySlots, slotSound, soundTo, wellMade, isOf}
+use Rattle.collection.specs.Record.{isFilled, emptySlots, mostFlag, slotSound, soundTo, wellMade, isOf}
 use Rattle.collection.specs.Refusals.{bodyRefusal, refusalOf, Fits}
 use Rattle.collection.specs.declared.Collection.{Collection}
 
 -- ---- the slots of a record
+
+pub mostFlag-div : (k n : ℕ) → k < 16 → n ≤ 16 → (31 + n - k) / 32 ≡ mostFlag k n
+mostFlag-div k n p q = go (ltb k n) refl where
+  go : (t : Bool) → ltb k n ≡ t → (31 + n - k) / 32 ≡ mostFlag k n
+  go true e = rw e (div-eq-of-lt-le 32 (omega (arith, ltb-true k n e)) (omega arith))
+  go false e = rw e (div-eq-of-lt (omega (arith, ltb-false k n e)))
 
 pub one-le : (t : Bool) → cond t 1 0 ≤ 1
 one-le true = omega arith
