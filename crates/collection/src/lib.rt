@@ -1,19 +1,14 @@
-// The record of a collection, and the tests of a record and of a body (document 01, "Collecting pieces").
+// The record of a collection, and the tests of a record (document 01, "Collecting pieces").
 //
-// Four public functions. `empty_collection` gives a record with nothing collected, `begin` one under a count and number. `is_of` says
-// whether a record holds the collection of a count and number: a record that no calls could have made holds nothing. `refuse` says by
-// which of tests 1 to 5 a body is refused. They take any record, any numbers and any body, and write nothing.
+// Three public functions. `empty_collection` gives a record with nothing collected, `begin` one under a count and number. `is_of` says
+// whether a record holds the collection of a count and number: a record that no calls could have made holds nothing. They take any
+// record and any numbers, and write nothing.
 ghost use mathlib.Core.Path.{_≡_};
 ghost use Prim.Native.Nat.{_≤_, _<_};
 ghost use lib.Dec.{ltb};
 ghost use Rattle.collection.specs.Record.{emptySlots, mostFlag, mostLength, slotSound, soundTo, wellMade, isOf, emptyCollection};
-ghost use Rattle.collection.specs.Refusals.{bodyRefusal, refusalOf};
 
-// The least length of a lent buffer, the bytes of a slot, and the most bytes of a piece.
-pub const BUFFER_BYTES: usize = 24000;
-
-pub const SLOT_BYTES: usize = 1500;
-
+// The most bytes of a piece.
 pub const PIECE_BYTES: u16 = 1497;
 
 // What is held: the count and number of a collection, and for each of sixteen slots whether it is
@@ -131,44 +126,4 @@ pub fn is_of(held: Collection, count: u8, number: u8) -> bool
         return false;
     }
     held.number == number
-}
-
-// The first of tests 2 to 5 that the body fails, or 0.
-fn refuse_body(body: &[u8]) -> u8
-    ensures { λ r. ⌜ r ≡ bodyRefusal (now (body .entry)) ⌝ }
-{
-    if body.len() < 3 {
-        return 2;
-    }
-    if SLOT_BYTES < body.len() {
-        return 3;
-    }
-    let n = body[1];
-    if n == 0 {
-        return 4;
-    }
-    if 16 < n {
-        return 4;
-    }
-    let s = body[2];
-    if s == 0 {
-        return 5;
-    }
-    if n < s {
-        return 5;
-    }
-    0
-}
-
-// The refusal of a body and two buffers of these lengths, 1 to 5, or 0.
-pub fn refuse(slots: usize, join: usize, body: &[u8]) -> u8
-    ensures { λ r. ⌜ r ≡ refusalOf slots join (now (body .entry)) ⌝ }
-{
-    if slots < BUFFER_BYTES {
-        return 1;
-    }
-    if join < BUFFER_BYTES {
-        return 1;
-    }
-    refuse_body(body)
 }
