@@ -18,7 +18,7 @@ use Rattle.table.specs.Table.{emptyTable}
 use Rattle.collector.specs.Answers.{Said, refused, again, waiting, complete}
 use Rattle.collection.specs.declared.Collection.{Collection}
 use Rattle.collection.specs.Record.{emptyCollection}
-use Rattle.collection.specs.Refusals.{numberOf}
+use Rattle.body_tests.specs.Refusals.{numberOf}
 use Rattle.collector_demands.specs.Runs.{accepts, lookup, continues, runOf, missing, message, Reply, reply, storedReply, replyOf}
 use Rattle.collector_demands.specs.Demand.{Lent, lentAfter, replyTo}
 use Rattle.collector_demands.proofs.Demands.{demand-2-nothing, blank-nothing}

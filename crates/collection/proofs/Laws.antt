@@ -1,30 +1,32 @@
--- Laws of a record and of the tests of a body (specs/Record.antt, specs/Refusals.antt).
+-- Laws of a record (specs/Record.antt).
 --
+--   mostFlag-div                     the greatest flag of a slot, as a quotient
 --   emptySlots-le, emptySlots-lt     at most n are empty; fewer where one is filled
 --   some-none, some-one              one slot more, empty or not, of the loop that looks for a filled one
 --   soundTo-at, soundTo-all          what it says of each slot; from each slot
 --   slotSound-len                    a sound slot is not too long
 --   wellMade-short, isOf-short       a well-made record has no length over 1,497
---   fits-of                          what a body that is not refused is like
---   refusalOf-room                   the buffers are long enough, and the body's own tests are passed
 -- Trusts: nothing.
-use Prim.Native.Nat.{ℕ, zero, suc, _+_, _≤_, _<_}
+use Prim.Native.Nat.{ℕ, zero, suc, _+_, _-_, _/_, _≤_, _<_}
 use mathlib.Core.Path.{_≡_, refl, sym}
-use mathlib.Core.Bool.{Bool, true, false, cond, _||_}
+use mathlib.Core.Bool.{Bool, true, false, cond}
 use mathlib.Core.List.{List}
 use mathlib.Core.Logic.{⊎-elim}
 use native.Mathlib.Omega.{arith}
-use native.Mathlib.Nat.{eq-or-lt-of-le, le-of-suc-le-suc}
+use native.Mathlib.Nat.{eq-or-lt-of-le, le-of-suc-le-suc, div-eq-of-lt, div-eq-of-lt-le}
 use native.Mathlib.Numerals.{add-one}
-use borrow.Author.Tests.{eqb-false, ltb-false, leb-true, ne-eqb, lt-ltb}
-use lib.ListN.{length, getD}
+use borrow.Author.Tests.{ltb-false, ltb-true, leb-true, ne-eqb, lt-ltb}
+use lib.ListN.{getD}
 use lib.Dec.{ltb, leb, eqb, leb·suc-suc}
 use Rattle.wire.proofs.Laws.{both}
-use Rattle.collection.specs.Record.{isFilled, emptySlots, slotSound, soundTo, wellMade, isOf}
-use Rattle.collection.specs.Refusals.{bodyRefusal, refusalOf, Fits}
+use Rattle.collection.specs.Record.{isFilled, emptySlots, mostFlag, slotSound, soundTo, wellMade, isOf}
 use Rattle.collection.specs.declared.Collection.{Collection}
 
--- ---- the slots of a record
+pub mostFlag-div : (k n : ℕ) → k < 16 → n ≤ 16 → (31 + n - k) / 32 ≡ mostFlag k n
+mostFlag-div k n p q = go (ltb k n) refl where
+  go : (t : Bool) → ltb k n ≡ t → (31 + n - k) / 32 ≡ mostFlag k n
+  go true e = rw e (div-eq-of-lt-le 32 (omega (arith, ltb-true k n e)) (omega arith))
+  go false e = rw e (div-eq-of-lt (omega (arith, ltb-false k n e)))
 
 pub one-le : (t : Bool) → cond t 1 0 ≤ 1
 one-le true = omega arith
@@ -79,39 +81,3 @@ wellMade-short r h k p =
 pub isOf-short : (r : Collection) (count number : ℕ) → isOf r count number ≡ true → (k : ℕ) → k < 16 → getD (r .lengths) k 0 ≤ 1497
 unfolding isOf
 isOf-short r count number h = wellMade-short r (both (wellMade r) _ h .0)
-
--- ---- the tests of a body
-
--- a test that was passed, and what follows it
-passed : (b : Bool) (x y : ℕ) → cond b (suc x) y ≡ 0 → (b ≡ false) × (y ≡ 0)
-passed true x y h = absurd (omega arith)
-passed false x y h = (refl, h)
-
-neither : (a b : Bool) → (a || b) ≡ false → (a ≡ false) × (b ≡ false)
-neither true b h = absurd (let z : _≡_ {A = ℕ} 0 1 = cc in omega arith)
-neither false b h = (refl, h)
-
-pub fits-of : (body : List ℕ) → bodyRefusal body ≡ 0 → Fits body
-unfolding bodyRefusal
-fits-of body h =
-    let p2 = passed (ltb (length body) 3) _ _ h in
-    let p3 = passed (ltb 1500 (length body)) _ _ (p2 .1) in
-    let p4 = passed (eqb (getD body 1 0) 0 || ltb 16 (getD body 1 0)) _ _ (p3 .1) in
-    let p5 = passed (eqb (getD body 2 0) 0 || ltb (getD body 1 0) (getD body 2 0)) _ _ (p4 .1) in
-    let n = neither (eqb (getD body 1 0) 0) (ltb 16 (getD body 1 0)) (p4 .0) in
-    let s = neither (eqb (getD body 2 0) 0) (ltb (getD body 1 0) (getD body 2 0)) (p5 .0) in
-    let ne = eqb-false (getD body 2 0) 0 (s .0) in
-    record {
-      head = ltb-false (length body) 3 (p2 .0);
-      most = ltb-false 1500 (length body) (p3 .0);
-      first = omega arith;
-      last = ltb-false (getD body 1 0) (getD body 2 0) (s .1);
-      few = ltb-false 16 (getD body 1 0) (n .1);
-    }
-
-pub refusalOf-room : (slots join : ℕ) (body : List ℕ) → refusalOf slots join body ≡ 0 → (24000 ≤ slots) × (24000 ≤ join) × (bodyRefusal body ≡ 0)
-unfolding refusalOf
-refusalOf-room slots join body h =
-    let p = passed (ltb slots 24000 || ltb join 24000) _ _ h in
-    let r = neither (ltb slots 24000) (ltb join 24000) (p .0) in
-    (ltb-false slots 24000 (r .0), ltb-false join 24000 (r .1), p .1)

@@ -1,2 +1,2 @@
--- Laws: the slots of a record, what a well-made record has, what the tests of a body leave.
+-- Laws: the slots of a record, what a well-made record has.
 pub mod Laws

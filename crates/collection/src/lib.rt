@@ -1,18 +1,14 @@
-// The record of a collection, and the tests of a record and of a body (document 01, "Collecting pieces").
+// The record of a collection, and the tests of a record (document 01, "Collecting pieces").
 //
-// Four public functions. `empty_collection` gives a record with nothing collected, `begin` one under a count and number. `is_of` says
-// whether a record holds the collection of a count and number: a record that no calls could have made holds nothing. `refuse` says by
-// which of tests 1 to 5 a body is refused. They take any record, any numbers and any body, and write nothing.
+// Three public functions. `empty_collection` gives a record with nothing collected, `begin` one under a count and number. `is_of` says
+// whether a record holds the collection of a count and number: a record that no calls could have made holds nothing. They take any
+// record and any numbers, and write nothing.
 ghost use mathlib.Core.Path.{_≡_};
+ghost use Prim.Native.Nat.{_≤_, _<_};
 ghost use lib.Dec.{ltb};
 ghost use Rattle.collection.specs.Record.{emptySlots, mostFlag, mostLength, slotSound, soundTo, wellMade, isOf, emptyCollection};
-ghost use Rattle.collection.specs.Refusals.{bodyRefusal, refusalOf};
 
-// The least length of a lent buffer, the bytes of a slot, and the most bytes of a piece.
-pub const BUFFER_BYTES: usize = 24000;
-
-pub const SLOT_BYTES: usize = 1500;
-
+// The most bytes of a piece.
 pub const PIECE_BYTES: u16 = 1497;
 
 // What is held: the count and number of a collection, and for each of sixteen slots whether it is
@@ -44,11 +40,13 @@ pub fn empty_collection() -> Collection
     begin(0, 0)
 }
 
-// The greatest flag that slot `k` of `n` may have.
-fn most_flag(k: usize, n: usize) -> u8
+// The greatest flag that slot `k` of `n` may have: 31 + n - k is below 64, and 32 or more where `k` is below `n`. A
+// compiler does this for sixteen slots at a time, as it does not with a test of `k < n`.
+fn most_flag(k: u8, n: u8) -> u8
+    requires { ⌜ (k < 16) × (n ≤ 16) ⌝ }
     ensures { λ r. ⌜ r ≡ mostFlag k n ⌝ }
 {
-    if k < n { 1 } else { 0 }
+    (31 + n - k) / 32
 }
 
 // The greatest length that a slot with this flag may have.
@@ -59,7 +57,8 @@ fn most_length(flag: u8) -> u16
 }
 
 // Whether slot `k` of `n` is as calls leave it.
-fn slot_sound(flag: u8, len: u16, k: usize, n: usize) -> bool
+fn slot_sound(flag: u8, len: u16, k: u8, n: u8) -> bool
+    requires { ⌜ (k < 16) × (n ≤ 16) ⌝ }
     ensures { λ r. ⌜ r ≡ slotSound flag len k n ⌝ }
 {
     if most_flag(k, n) < flag {
@@ -69,13 +68,15 @@ fn slot_sound(flag: u8, len: u16, k: usize, n: usize) -> bool
 }
 
 // Whether all sixteen slots are.
-fn all_sound(filled: [u8; 16], lengths: [u16; 16], n: usize) -> bool
+fn all_sound(filled: [u8; 16], lengths: [u16; 16], n: u8) -> bool
+    requires { ⌜ n ≤ 16 ⌝ }
     ensures { λ r. ⌜ r ≡ soundTo filled lengths n 16 ⌝ }
 {
     let mut sound = true;
-    let mut k = 0;
+    let mut k: u8 = 0;
     while k < 16 {
-        if !slot_sound(filled[k], lengths[k], k, n) {
+        let at = k as usize;
+        if !slot_sound(filled[at], lengths[at], k, n) {
             sound = false;
         }
         k += 1;
@@ -102,7 +103,7 @@ fn any_filled(filled: [u8; 16]) -> bool
 fn well_made(held: Collection) -> bool
     ensures { λ r. ⌜ r ≡ wellMade held ⌝ }
 {
-    let n = held.number as usize;
+    let n = held.number;
     let filled = held.filled;
     let lengths = held.lengths;
     if 16 < n {
@@ -125,44 +126,4 @@ pub fn is_of(held: Collection, count: u8, number: u8) -> bool
         return false;
     }
     held.number == number
-}
-
-// The first of tests 2 to 5 that the body fails, or 0.
-fn refuse_body(body: &[u8]) -> u8
-    ensures { λ r. ⌜ r ≡ bodyRefusal (now (body .entry)) ⌝ }
-{
-    if body.len() < 3 {
-        return 2;
-    }
-    if SLOT_BYTES < body.len() {
-        return 3;
-    }
-    let n = body[1];
-    if n == 0 {
-        return 4;
-    }
-    if 16 < n {
-        return 4;
-    }
-    let s = body[2];
-    if s == 0 {
-        return 5;
-    }
-    if n < s {
-        return 5;
-    }
-    0
-}
-
-// The refusal of a body and two buffers of these lengths, 1 to 5, or 0.
-pub fn refuse(slots: usize, join: usize, body: &[u8]) -> u8
-    ensures { λ r. ⌜ r ≡ refusalOf slots join (now (body .entry)) ⌝ }
-{
-    if slots < BUFFER_BYTES {
-        return 1;
-    }
-    if join < BUFFER_BYTES {
-        return 1;
-    }
-    refuse_body(body)
 }

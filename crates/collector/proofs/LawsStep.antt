@@ -18,7 +18,7 @@ use Rattle.wire.proofs.Laws.{both}
 use Rattle.collector.specs.Answers.{refused, again, waiting, complete}
 use Rattle.collection.specs.Record.{isFilled, emptySlots, wellMade, isOf, emptyCollection}
 use Rattle.collector.specs.Pieces.{pieceAt, joined}
-use Rattle.collection.specs.Refusals.{countOf, numberOf, slotOf, pieceOf, refusalOf}
+use Rattle.body_tests.specs.Refusals.{countOf, numberOf, slotOf, pieceOf, refusalOf}
 use Rattle.collector.specs.Step.{goesOn, repeats, anew, relationOf, baseOf, noted, After, after, finished, accepted, collectStep}
 use Rattle.collector.specs.Duties.{storedStep}
 use Rattle.collection.specs.declared.Collection.{Collection}

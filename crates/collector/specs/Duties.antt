@@ -8,7 +8,7 @@ use mathlib.Core.List.{List}
 use lib.ListN.{length}
 use Rattle.wire.specs.Bytes.{pasted}
 use Rattle.collection.specs.declared.Collection.{Collection}
-use Rattle.collection.specs.Refusals.{slotOf, pieceOf}
+use Rattle.body_tests.specs.Refusals.{slotOf, pieceOf}
 use Rattle.collector.specs.Step.{noted, After, finished}
 
 abbrev pub storedStep : Collection → List ℕ → List ℕ → List ℕ → After

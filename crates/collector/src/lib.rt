@@ -12,7 +12,7 @@ ghost use mathlib.Core.List.{_++_};
 ghost use lib.ListN.{length, take, drop, getD};
 ghost use Rattle.wire.specs.Bytes.{pasted, sameBytes};
 ghost use Rattle.collection.specs.Record.{emptySlots};
-ghost use Rattle.collection.specs.Refusals.{numberOf, pieceOf, Fits};
+ghost use Rattle.body_tests.specs.Refusals.{numberOf, pieceOf, Fits};
 ghost use Rattle.collector.specs.Pieces.{joined};
 ghost use Rattle.collector.specs.Answers.{said};
 ghost use Rattle.collector.specs.Duties.{storedStep};
@@ -65,7 +65,7 @@ fn has_piece(slots: &[u8], k: usize, len: usize, body: &[u8]) -> bool
     requires { ⌜ (3 ≤ length (now body)) × (k * 1500 + len ≤ length (now slots)) ⌝ }
     ensures { λ r. ⌜ r ≡ sameBytes (take len (drop (k * 1500) (now (slots .entry)))) (pieceOf (now (body .entry))) ⌝ }
 {
-    let at = k * collection::SLOT_BYTES;
+    let at = k * body_tests::SLOT_BYTES;
     wire::same_bytes(&slots[at..at + len], &body[3..])
 }
 
@@ -105,7 +105,7 @@ fn store(slots: &mut [u8], k: usize, body: &[u8])
     requires { ⌜ (3 ≤ length (now body)) × (k * 1500 + (length (now body) - 3) ≤ length (now slots)) ⌝ }
     ensures { λ _. ⌜ now (slots .exit) ≡ pasted (now (slots .entry)) (k * 1500) (pieceOf (now (body .entry))) ⌝ }
 {
-    let at = k * collection::SLOT_BYTES;
+    let at = k * body_tests::SLOT_BYTES;
     wire::copy_at(slots, at, &body[3..]);
 }
 
@@ -114,7 +114,7 @@ fn join_one(slots: &[u8], join: &mut [u8], k: usize, len: usize, at: usize)
     requires { ⌜ k * 1500 + len ≤ length (now slots) ⌝ }
     ensures { λ _. ⌜ now (join .exit) ≡ pasted (now (join .entry)) at (take len (drop (k * 1500) (now (slots .entry)))) ⌝ }
 {
-    let from = k * collection::SLOT_BYTES;
+    let from = k * body_tests::SLOT_BYTES;
     wire::copy_at(join, at, &slots[from..from + len]);
 }
 
@@ -180,7 +180,7 @@ fn accept(from: Collection, slots: &mut [u8], join: &mut [u8], body: &[u8]) -> O
 pub fn collect(held: Collection, slots: &mut [u8], join: &mut [u8], body: &[u8]) -> Outcome
     ensures { λ r. ⌜ record { answer = said (r .answer); held = r .held; slots = now (slots .exit); join = now (join .exit) } ≡ collectStep held (now (slots .entry)) (now (join .entry)) (now (body .entry)) ⌝ }
 {
-    let refusal = collection::refuse(slots.len(), join.len(), body);
+    let refusal = body_tests::refuse(slots.len(), join.len(), body);
     if refusal != 0 {
         return Outcome {
             answer: Answer::Refused(refusal),

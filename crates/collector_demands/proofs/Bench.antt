@@ -18,7 +18,7 @@ use Rattle.wire.specs.Bytes.{sameBytes}
 use Rattle.collector.specs.Answers.{refused, again, waiting, complete, lentOf}
 use Rattle.collection.specs.Record.{soundTo, emptySlots, wellMade, isOf, emptyCollection}
 use Rattle.collector.specs.Pieces.{pieceAt}
-use Rattle.collection.specs.Refusals.{bodyRefusal, refusalOf}
+use Rattle.body_tests.specs.Refusals.{bodyRefusal, refusalOf}
 use Rattle.collector.specs.Step.{relationOf, accepted, collectStep}
 use Rattle.collection.specs.declared.Collection.{Collection}
 use Rattle.collector_demands.specs.Runs.{accepts, lookup, continues, runOf, missing, message, reply, replyOf}

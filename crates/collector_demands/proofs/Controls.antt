@@ -16,13 +16,13 @@ use lib.ListN.{length, getD}
 use lib.Dec.{eqb}
 use Rattle.collector.specs.Answers.{Said, refused, again, waiting, complete, said, lentOf}
 use Rattle.collection.specs.Record.{wellMade}
-use Rattle.collection.specs.Refusals.{numberOf, slotOf, pieceOf, bodyRefusal}
+use Rattle.body_tests.specs.Refusals.{numberOf, slotOf, pieceOf, bodyRefusal}
 use Rattle.collector.specs.Step.{After, collectStep}
 use Rattle.collection.specs.declared.Collection.{Collection}
 use Rattle.collector.specs.declared.Outcome.{Outcome}
 use Rattle.collector.specs.declared.Answer.{Answer}
 use Rattle.collector.specs.declared.Answer.the-variants.{Refused, Repeat, Waiting, Complete}
-use Rattle.collection.proofs.Laws.{fits-of}
+use Rattle.body_tests.proofs.Laws.{fits-of}
 use Rattle.collector_demands.specs.Runs.{isFull, accepts, lookup, continues, runOf, missing, message, Reply, reply, storedReply, replyOf}
 use Rattle.collector_demands.specs.Demand.{Lent, lentAfter, told, isComplete}
 use Rattle.collector_demands.proofs.Holds.{lookup-own}

@@ -15,10 +15,10 @@ use lib.ListN.{length, getD}
 use lib.Dec.{eqb}
 use Rattle.collector.specs.Answers.{Said, refused}
 use Rattle.collection.specs.Record.{emptySlots, soundTo, wellMade, isOf, emptyCollection}
-use Rattle.collection.specs.Refusals.{countOf, numberOf, bodyRefusal, refusalOf}
+use Rattle.body_tests.specs.Refusals.{countOf, numberOf, bodyRefusal, refusalOf}
 use Rattle.collector.specs.Step.{anew, relationOf, baseOf, After, after, accepted, collectStep}
 use Rattle.collection.specs.declared.Collection.{Collection}
-use Rattle.collection.proofs.Laws.{refusalOf-room}
+use Rattle.body_tests.proofs.Laws.{refusalOf-room}
 use Rattle.collector_demands.specs.Runs.{accepts, runOf, Reply, reply, replyOf, HeldBy, standsFor, Sized}
 use Rattle.collector_demands.specs.Demand.{Lent, called, lentAfter, told, replyTo, isComplete, completions, Cutting, bodyOf, Arrived, none, other, piece, Came, Apart, Demand3}
 use Rattle.collector_demands.proofs.Refine.{Rep, rep-held, refusalOf-long, step}

@@ -20,7 +20,7 @@ use Rattle.wire.specs.Bytes.{pasted}
 use Rattle.wire.proofs.Laws.{clash, length-pasted}
 use Rattle.collection.specs.Record.{isFilled, emptySlots, slotSound, soundTo, wellMade, emptyCollection}
 use Rattle.collector.specs.Pieces.{pieceAt, joined}
-use Rattle.collection.specs.Refusals.{numberOf, slotOf, pieceOf, Fits}
+use Rattle.body_tests.specs.Refusals.{numberOf, slotOf, pieceOf, Fits}
 use Rattle.collector.specs.Step.{noted}
 use Rattle.collection.specs.declared.Collection.{Collection}
 use Rattle.collection.proofs.Laws.{emptySlots-lt, soundTo-all}

@@ -16,11 +16,11 @@ use Rattle.wire.specs.Bytes.{pasted}
 use Rattle.collector.specs.Answers.{refused, again, waiting, complete}
 use Rattle.collection.specs.Record.{emptySlots}
 use Rattle.collector.specs.Pieces.{joined}
-use Rattle.collection.specs.Refusals.{slotOf, pieceOf, refusalOf}
+use Rattle.body_tests.specs.Refusals.{slotOf, pieceOf, refusalOf}
 use Rattle.collector.specs.Step.{relationOf, baseOf, noted, after, finished, accepted, collectStep}
 use Rattle.collection.specs.declared.Collection.{Collection}
 use Rattle.collector.proofs.Laws.{length-joined}
-use Rattle.collection.proofs.Laws.{fits-of, refusalOf-room}
+use Rattle.body_tests.proofs.Laws.{fits-of, refusalOf-room}
 use Rattle.collector.proofs.LawsStep.{baseOf-number, noted-short}
 use Rattle.collector_demands.specs.Demand.{concat, Cutting}
 use Rattle.collector_demands.proofs.Missing.{wholeTo}

@@ -17,7 +17,7 @@ use lib.Dec.{eqb, ltb, leb}
 use Rattle.wire.proofs.Laws.{both, clash}
 use Rattle.collection.specs.Record.{isFilled, emptySlots, slotSound, soundTo, wellMade}
 use Rattle.collector.specs.Pieces.{pieceAt}
-use Rattle.collection.specs.Refusals.{countOf, numberOf, slotOf, pieceOf, bodyRefusal}
+use Rattle.body_tests.specs.Refusals.{countOf, numberOf, slotOf, pieceOf, bodyRefusal}
 use Rattle.collection.specs.declared.Collection.{Collection}
 use Rattle.collection.proofs.Laws.{soundTo-at}
 use Rattle.collector.proofs.Laws.{length-pieceAt, length-pieceAt-le}

@@ -15,7 +15,7 @@ use lib.ListN.{length, getD, drop}
 use lib.Dec.{eqb, ltb}
 use Rattle.wire.proofs.Laws.{sameBytes-refl}
 use Rattle.collector.specs.Answers.{Said, refused, again, waiting, complete}
-use Rattle.collection.specs.Refusals.{countOf, numberOf, slotOf, pieceOf, bodyRefusal}
+use Rattle.body_tests.specs.Refusals.{countOf, numberOf, slotOf, pieceOf, bodyRefusal}
 use Rattle.collector_demands.specs.Runs.{Slot, empty, full, isFull, bytesOf, accepts, lookup, takes, continues, runOf, missing, message, Reply, reply, storedReply, replyOf}
 use Rattle.collector_demands.specs.Demand.{isComplete, bodyOf, Arrived, none, other, piece, Came}
 use Rattle.collector_demands.proofs.Missing.{missing-same, missing-less, missing-some, missing-none, missing-all, wholeTo, message-whole}

@@ -18,10 +18,10 @@ use Rattle.wire.proofs.Laws.{sameBytes-true}
 use Rattle.collector.specs.Answers.{Said, refused, again, waiting, complete, lentOf}
 use Rattle.collection.specs.Record.{isFilled, emptySlots, wellMade, isOf, emptyCollection}
 use Rattle.collector.specs.Pieces.{pieceAt, joined}
-use Rattle.collection.specs.Refusals.{countOf, numberOf, slotOf, pieceOf, bodyRefusal, refusalOf, Fits}
+use Rattle.body_tests.specs.Refusals.{countOf, numberOf, slotOf, pieceOf, bodyRefusal, refusalOf, Fits}
 use Rattle.collector.specs.Step.{goesOn, repeats, anew, relationOf, baseOf, noted, After, after, finished, accepted, collectStep}
 use Rattle.collection.specs.declared.Collection.{Collection}
-use Rattle.collection.proofs.Laws.{fits-of}
+use Rattle.body_tests.proofs.Laws.{fits-of}
 use Rattle.collector_demands.specs.Runs.{Slot, empty, full, isFull, bytesOf, accepts, lookup, takes, continues, runOf, missing, message, Reply, reply, storedReply, replyOf, SlotHas, HeldBy, nothing, these}
 use Rattle.collector_demands.specs.Demand.{told}
 use Rattle.collector_demands.proofs.Holds.{Has, Slots, put, put-same, lookup-own, well, none-held, missing-is, message-is}

@@ -22,7 +22,7 @@ use mathlib.Core.Logic.{_⊎_}
 use lib.ListN.{length, getD}
 use Rattle.collector.specs.Answers.{Said, refused, again, waiting, complete, lentOf}
 use Rattle.collection.specs.Record.{wellMade}
-use Rattle.collection.specs.Refusals.{bodyRefusal}
+use Rattle.body_tests.specs.Refusals.{bodyRefusal}
 use Rattle.collector.specs.Step.{After, collectStep}
 use Rattle.collection.specs.declared.Collection.{Collection}
 use Rattle.collector_demands.specs.Runs.{Reply, reply}

@@ -22,7 +22,7 @@ use Rattle.wire.specs.Bytes.{sameBytes}
 use Rattle.collector.specs.Answers.{Said, refused, again, waiting, complete}
 use Rattle.collection.specs.Record.{isFilled, wellMade}
 use Rattle.collector.specs.Pieces.{pieceAt}
-use Rattle.collection.specs.Refusals.{countOf, numberOf, slotOf, pieceOf, bodyRefusal}
+use Rattle.body_tests.specs.Refusals.{countOf, numberOf, slotOf, pieceOf, bodyRefusal}
 use Rattle.collection.specs.declared.Collection.{Collection}
 
 -- a slot: empty, or full with these bytes

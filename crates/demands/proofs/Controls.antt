@@ -35,7 +35,7 @@ use Rattle.modem.specs.Step.{steppedModem}
 use Rattle.modem.proofs.Controls as modem
 use Rattle.collector.specs.Answers.{waiting}
 use Rattle.collection.specs.Record.{wellMade}
-use Rattle.collection.specs.Refusals.{numberOf as pieces}
+use Rattle.body_tests.specs.Refusals.{numberOf as pieces}
 use Rattle.collector.specs.Step.{After}
 use Rattle.collection.specs.declared.Collection.{Collection}
 use Rattle.collector_demands.specs.Runs.{accepts, lookup, runOf, missing, Reply}

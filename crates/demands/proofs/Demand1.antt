@@ -25,7 +25,7 @@ use Rattle.wire.specs.Bytes.{pasted}
 use Rattle.collector.specs.Answers.{Said, refused, again, waiting, complete, lentOf}
 use Rattle.collection.specs.Record.{emptySlots}
 use Rattle.collector.specs.Pieces.{joined}
-use Rattle.collection.specs.Refusals.{numberOf, slotOf, pieceOf, bodyRefusal, refusalOf}
+use Rattle.body_tests.specs.Refusals.{numberOf, slotOf, pieceOf, bodyRefusal, refusalOf}
 use Rattle.collector.specs.Step.{relationOf, repeats, baseOf, noted, After, after, finished, accepted, collectStep}
 use Rattle.lending.specs.Lent.{LentAfter, lentStep}
 use Rattle.collection.specs.declared.Collection.{Collection}

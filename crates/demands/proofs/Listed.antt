@@ -10,7 +10,7 @@ use lib.ListN.{getD, replicate}
 use Rattle.wire.specs.Bytes.{sameBytes}
 use Rattle.table.specs.Table.{emptyTable, limitedTo, rulesOf, classifiersOf, channelsOf, clientsOf, numbersOf}
 use Rattle.collector.specs.Answers.{complete}
-use Rattle.collection.specs.Refusals.{bodyRefusal}
+use Rattle.body_tests.specs.Refusals.{bodyRefusal}
 use Rattle.collector_demands.specs.Runs.{accepts, lookup, continues, runOf, missing, message, Reply, reply, replyOf}
 use Rattle.collector_demands.proofs.Bench.{M}
 use Rattle.reader.specs.Read.{readTable}

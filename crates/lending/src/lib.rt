@@ -9,7 +9,7 @@
 ghost use mathlib.Core.Path.{_≡_};
 ghost use lib.ListN.{length, take, drop};
 ghost use Rattle.collector.specs.Answers.{said, lentOf, ownOf, joinedOf};
-ghost use Rattle.collection.specs.Refusals.{pieceOf};
+ghost use Rattle.body_tests.specs.Refusals.{pieceOf};
 ghost use Rattle.lending.specs.Lent.{LentAfter, lentStep};
 use collection::Collection;
 use collector::Answer;

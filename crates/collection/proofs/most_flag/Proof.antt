@@ -1,8 +1,12 @@
--- `collection::most_flag` gives `mostFlag`: one answer on each side of its test.
+-- `collection::most_flag` gives `mostFlag`: the law of that quotient.
 -- Trusts: nothing.
-use borrow.Author.Tests.{lt-ltb, le-ltb}
+use native.Mathlib.Omega.{arith}
+use Rattle.collection.proofs.Laws.{mostFlag-div}
 use Rattle.collection.proofs.most_flag.Statement.{statement}
 use Rattle.collection.proofs.most_flag.Tie as tie
 
+returns : tie.Need-returns
+returns c = mostFlag-div (c .args .k) (c .args .n) (c .pre .0) (c .pre .1)
+
 pub most-flag-spec : {M : Type 1} → statement M
-most-flag-spec = tie.close (tie.spec (λ c. simp (lt-ltb _ _ (c .if1 .taken))) (λ c. simp (le-ltb _ _ (c .if1 .left))))
+most-flag-spec = tie.close (tie.spec (λ c. omega arith) (λ c. omega arith) returns)

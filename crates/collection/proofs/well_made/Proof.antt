@@ -23,4 +23,4 @@ unfolding wellMade
 returns-3 c = simp (le-leb _ _ (c .before .before .if1 .left), sym (c .before .all-sound .ensures) ∙ c .if2 .left)
 
 pub well-made-spec : {M : Type 1} → statement M
-well-made-spec = tie.close (tie.spec (λ c. search needs) returns (λ c κs. search needs) (λ c κs. search needs) returns-2 returns-3)
+well-made-spec = tie.close (tie.spec returns (λ c κs. search needs) (λ c κs. search needs) returns-2 returns-3)

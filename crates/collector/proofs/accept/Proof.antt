@@ -7,7 +7,7 @@ use Prim.Native.Nat.{ℕ, _-_}
 use borrow.Author.Needs.{needs}
 use denote.Ref.{now}
 use lib.ListN.{length}
-use Rattle.collection.specs.Refusals.{slotOf}
+use Rattle.body_tests.specs.Refusals.{slotOf}
 use Rattle.collector.specs.Step.{noted, finished}
 use Rattle.collector.proofs.LawsStep.{set-bound}
 use Rattle.collector.proofs.accept.Statement.{statement}

@@ -6,8 +6,8 @@ use native.Mathlib.Omega.{arith}
 use Prim.Native.Nat.{_-_, _≤_}
 use denote.Ref.{now}
 use lib.ListN.{length}
-use Rattle.collection.specs.Refusals.{Fits, refusalOf}
-use Rattle.collection.proofs.Laws.{refusalOf-room, fits-of}
+use Rattle.body_tests.specs.Refusals.{Fits, refusalOf}
+use Rattle.body_tests.proofs.Laws.{refusalOf-room, fits-of}
 use Rattle.collector.proofs.LawsStep.{step-refused, step-again, step-stored, from-number, from-short}
 use Rattle.collector.proofs.collect.Statement.{statement}
 use Rattle.collector.proofs.collect.Tie as tie

@@ -10,7 +10,7 @@ use denote.Ref.{now}
 use lib.ListN.{getD}
 use Rattle.collector.specs.Pieces.{pieceAt}
 use Rattle.collection.specs.Record.{isOf}
-use Rattle.collection.specs.Refusals.{slotOf, countOf, numberOf}
+use Rattle.body_tests.specs.Refusals.{slotOf, countOf, numberOf}
 use Rattle.collector.specs.Step.{relationOf}
 use Rattle.collection.proofs.Laws.{isOf-short}
 use Rattle.collector.proofs.relate.Statement.{statement}

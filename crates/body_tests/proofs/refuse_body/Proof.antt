@@ -1,10 +1,10 @@
--- `collection::refuse_body` gives `bodyRefusal`: at each `return` the tests that led there say which case holds.
+-- `body_tests::refuse_body` gives `bodyRefusal`: at each `return` the tests that led there say which case holds.
 -- Trusts: nothing.
 use borrow.Author.Needs.{needs}
 use borrow.Author.Tests.{le-ltb, lt-ltb, eq-eqb, ne-eqb}
-use Rattle.collection.specs.Refusals.{bodyRefusal}
-use Rattle.collection.proofs.refuse_body.Statement.{statement}
-use Rattle.collection.proofs.refuse_body.Tie as tie
+use Rattle.body_tests.specs.Refusals.{bodyRefusal}
+use Rattle.body_tests.proofs.refuse_body.Statement.{statement}
+use Rattle.body_tests.proofs.refuse_body.Tie as tie
 
 -- under 3 bytes: 2
 returns : tie.Need-returns

@@ -1,10 +1,10 @@
--- `collection::refuse` gives `refusalOf`: test 1 on each buffer, then the body's own.
+-- `body_tests::refuse` gives `refusalOf`: test 1 on each buffer, then the body's own.
 -- Trusts: nothing.
 use borrow.Author.Needs.{needs}
 use borrow.Author.Tests.{le-ltb, lt-ltb}
-use Rattle.collection.specs.Refusals.{refusalOf}
-use Rattle.collection.proofs.refuse.Statement.{statement}
-use Rattle.collection.proofs.refuse.Tie as tie
+use Rattle.body_tests.specs.Refusals.{refusalOf}
+use Rattle.body_tests.proofs.refuse.Statement.{statement}
+use Rattle.body_tests.proofs.refuse.Tie as tie
 
 -- a short slot buffer
 returns : tie.Need-returns

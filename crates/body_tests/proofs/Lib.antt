@@ -1,0 +1,2 @@
+-- Laws: what the tests of a body leave.
+pub mod Laws
