@@ -32,11 +32,11 @@ use Rattle.tunnel.specs.Judge.{matchPlace, ruleVerdict, choiceVerdict, verdictO
 use Rattle.prepared.specs.Prepared.{entriesOf, preparedVerdict}
 use Rattle.modem_record.specs.declared.Modem.{Modem}
 use Rattle.modem_rows.specs.declared.Event.{Event}
-use Rattle.modem.specs.declared.Answer.{Answer}
-use Rattle.modem.specs.declared.Answer.the-variants as modem
-use Rattle.modem.specs.Step.{answerNumber, steppedModem, nextModem}
+use Rattle.modem_step.specs.declared.Answer.{Answer}
+use Rattle.modem_step.specs.declared.Answer.the-variants as modem
+use Rattle.modem_step.specs.Step.{answerNumber, steppedModem, nextModem}
 use Rattle.modem_rows.specs.Numbers.{eventOf}
-use Rattle.modem.specs.Numbers.{numberedStep}
+use Rattle.modem_step.specs.Numbers.{numberedStep}
 use Rattle.modem.proofs.LawsSending as sending
 
 -- ---- choosing

@@ -49,16 +49,16 @@ use Rattle.preparing.proofs.prepare_tunnel.Reads as prepare_tunnel
 use Rattle.prepared.proofs.judge_prepared.Reads as judge_prepared
 use Rattle.prepared.proofs.judge_lent.Reads as judge_lent
 use Rattle.modem_record.specs.declared.Modem.{Modem}
-use Rattle.modem.specs.declared.Answer.{Answer}
-use Rattle.modem.specs.declared.Stepped.{Stepped}
+use Rattle.modem_step.specs.declared.Answer.{Answer}
+use Rattle.modem_step.specs.declared.Stepped.{Stepped}
 use Rattle.modem_record.specs.Record as kept
 use Rattle.modem_record.specs.Record.{emptyModem}
-use Rattle.modem.specs.Step.{steppedModem}
-use Rattle.modem.specs.Numbers.{numberedStep}
+use Rattle.modem_step.specs.Step.{steppedModem}
+use Rattle.modem_step.specs.Numbers.{numberedStep}
 use Rattle.modem.proofs.step_modem.Reads as step_modem
 use Rattle.modem.proofs.step_modem.Statement as step_modem′
 use Rattle.modem.proofs.step_modem.Met as step_modem″
-use Rattle.modem.proofs.step_numbered.Reads as step_numbered
+use Rattle.modem_step.proofs.step_numbered.Reads as step_numbered
 use Rattle.modem_record.proofs.transmits.Reads as transmits
 use Rattle.modem_record.proofs.forwards.Reads as forwards
 use Rattle.modem_record.proofs.empty_modem.Reads as empty_modem

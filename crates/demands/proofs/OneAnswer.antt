@@ -13,7 +13,7 @@ use Rattle.demands.proofs.Demand2 as demand2
 use Rattle.collector.specs.Answers.{said}
 use Rattle.collector.specs.Step.{After}
 use Rattle.lending.specs.Lent.{LentAfter}
-use Rattle.modem.specs.declared.Stepped.{Stepped}
+use Rattle.modem_step.specs.declared.Stepped.{Stepped}
 use Rattle.reader.proofs.read_table.Reads as read_table
 use Rattle.collection.proofs.empty_collection.Reads as empty_collection
 use Rattle.collector.proofs.collect.Reads as collect
@@ -30,7 +30,7 @@ use Rattle.modem_record.proofs.empty_modem.Reads as empty_modem
 use Rattle.modem_record.proofs.counts_idle.Reads as counts_idle
 use Rattle.modem_rows.proofs.act.Reads as act
 use Rattle.modem.proofs.step_modem.Reads as step_modem
-use Rattle.modem.proofs.step_numbered.Reads as step_numbered
+use Rattle.modem_step.proofs.step_numbered.Reads as step_numbered
 use Rattle.modem_record.proofs.transmits.Reads as transmits
 use Rattle.modem_record.proofs.forwards.Reads as forwards
 use Rattle.receiver.specs.Receive.{told, Had}

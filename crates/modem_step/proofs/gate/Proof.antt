@@ -1,13 +1,13 @@
--- `modem::gate` gives `gateOf`: each return has its two or three tests; the last holds for a Start too.
+-- `modem_step::gate` gives `gateOf`: each return has its two or three tests; the last holds for a Start too.
 -- Trusts: nothing.
 use borrow.Author.Needs.{needs}
 use mathlib.Core.Path.{sym}
 use mathlib.Core.Bool.{_&&_}
 use lib.Dec.{ltb, eqb}
-use Rattle.modem.proofs.Laws.{cond-zero}
-use Rattle.modem.specs.Numbers.{gateOf}
-use Rattle.modem.proofs.gate.Statement.{statement}
-use Rattle.modem.proofs.gate.Tie as tie
+use Rattle.modem_step.proofs.Laws.{cond-zero}
+use Rattle.modem_step.specs.Numbers.{gateOf}
+use Rattle.modem_step.proofs.gate.Statement.{statement}
+use Rattle.modem_step.proofs.gate.Tie as tie
 
 pub gate-spec : {M : Type 1} → statement M
 unfolding gateOf

@@ -10,8 +10,8 @@ use lib.Dec.{ltb, eqb}
 use Rattle.modem_record.specs.declared.Modem.{Modem}
 use Rattle.modem_record.specs.Record.{countsIdle}
 use Rattle.modem_rows.specs.Numbers.{eventOf}
-use Rattle.modem.specs.declared.Numbered.{Numbered}
-use Rattle.modem.specs.Step.{isBack, answerNumber, steppedModem}
+use Rattle.modem_step.specs.declared.Numbered.{Numbered}
+use Rattle.modem_step.specs.Step.{isBack, answerNumber, steppedModem}
 
 unfoldable pub gateOf : Modem → ℕ → ℕ → ℕ → ℕ
 gateOf m now kind a = cond (eqb kind 1 && ltb a 2) 0 (cond (countsIdle m) 1 (cond (isBack now (m .last)) 18 0))

@@ -1,10 +1,10 @@
--- `modem::step_numbered` gives `numberedStep`: each return cites the law of its way through the gate.
+-- `modem_step::step_numbered` gives `numberedStep`: each return cites the law of its way through the gate.
 -- Trusts: nothing.
 use borrow.Author.Needs.{needs}
 use mathlib.Core.Path.{sym, _∙_}
-use Rattle.modem.proofs.Laws.{numberedStep-taken, numberedStep-back, numberedStep-ignored}
-use Rattle.modem.proofs.step_numbered.Statement.{statement}
-use Rattle.modem.proofs.step_numbered.Tie as tie
+use Rattle.modem_step.proofs.Laws.{numberedStep-taken, numberedStep-back, numberedStep-ignored}
+use Rattle.modem_step.proofs.step_numbered.Statement.{statement}
+use Rattle.modem_step.proofs.step_numbered.Tie as tie
 
 pub step-numbered-spec : {M : Type 1} → statement M
 step-numbered-spec =

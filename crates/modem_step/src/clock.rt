@@ -1,6 +1,6 @@
 // The clock of a modem record and its running timers. Nothing here moves a modem to another state.
 ghost use mathlib.Core.Path.{_≡_};
-ghost use Rattle.modem.specs.Step.{clockStep, isBack, fallen, aged};
+ghost use Rattle.modem_step.specs.Step.{clockStep, isBack, fallen, aged};
 use modem_record::Modem;
 
 // The step of the clock since `last`, over its top.

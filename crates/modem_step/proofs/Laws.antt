@@ -13,14 +13,14 @@ use native.Mathlib.Omega.{arith}
 use Rattle.modem_record.specs.declared.Modem.{Modem}
 use Rattle.modem_rows.specs.declared.Event.{Event}
 use Rattle.modem_rows.specs.declared.Event.the-variants.{Start}
-use Rattle.modem.specs.declared.Numbered.{Numbered}
-use Rattle.modem.specs.declared.Answer.{Answer}
-use Rattle.modem.specs.declared.Answer.the-variants.{Done, ClockBack}
+use Rattle.modem_step.specs.declared.Numbered.{Numbered}
+use Rattle.modem_step.specs.declared.Answer.{Answer}
+use Rattle.modem_step.specs.declared.Answer.the-variants.{Done, ClockBack}
 use Rattle.modem_record.specs.Record.{countsIdle}
 use Rattle.modem_rows.specs.Events.{startRow, eventOn}
-use Rattle.modem.specs.Step.{isBack, aged, isStart, answerNumber, answerOf, steppedModem}
+use Rattle.modem_step.specs.Step.{isBack, aged, isStart, answerNumber, answerOf, steppedModem}
 use Rattle.modem_rows.specs.Numbers.{startOf, eventOf}
-use Rattle.modem.specs.Numbers.{gateOf, numberedStep}
+use Rattle.modem_step.specs.Numbers.{gateOf, numberedStep}
 
 pub and-left : (a b : Bool) → a && b ≡ true → a ≡ true
 and-left true b h = refl

@@ -1,11 +1,11 @@
--- `modem::clock::fall` gives `fallen`: a timer that is off stays, one that runs falls as far as it can.
+-- `modem_step::clock::fall` gives `fallen`: a timer that is off stays, one that runs falls as far as it can.
 -- Trusts: nothing.
 use borrow.Author.Needs.{needs}
 use borrow.Author.Tests.{eq-eqb, ne-eqb}
 use native.Mathlib.Omega.{arith}
-use Rattle.modem.specs.Step.{fallen}
-use Rattle.modem.proofs.clock.fall.Statement.{statement}
-use Rattle.modem.proofs.clock.fall.Tie as tie
+use Rattle.modem_step.specs.Step.{fallen}
+use Rattle.modem_step.proofs.clock.fall.Statement.{statement}
+use Rattle.modem_step.proofs.clock.fall.Tie as tie
 
 pub fall-spec : {M : Type 1} → statement M
 unfolding fallen

@@ -1,8 +1,8 @@
--- `modem::clock::age` gives `aged`: the clock, and each timer as `fall` ensures.
+-- `modem_step::clock::age` gives `aged`: the clock, and each timer as `fall` ensures.
 -- Trusts: nothing.
 use borrow.Author.Needs.{needs}
-use Rattle.modem.proofs.clock.age.Statement.{statement}
-use Rattle.modem.proofs.clock.age.Tie as tie
+use Rattle.modem_step.proofs.clock.age.Statement.{statement}
+use Rattle.modem_step.proofs.clock.age.Tie as tie
 
 pub age-spec : {M : Type 1} → statement M
 age-spec =

@@ -5,17 +5,17 @@
 --   answerNumber, answerOf this paper's number of an answer, and the answer of a number
 --   steppedModem m now ev  the answer and the record after the event;  nextModem   that record alone
 --
--- Tested by: `FFFFFF00 then 00000100` of the bench list in proofs/Bench.antt; random records and events against the other
--- program in host/. Trusts: nothing.
+-- Tested by: `FFFFFF00 then 00000100` of the bench list in proofs/Bench.antt of crate modem; random records and events
+-- against the other program in host/. Trusts: nothing.
 use Prim.Native.Nat.{ℕ, _+_, _-_, _%_, _^_}
 use mathlib.Core.Bool.{Bool, true, false, cond, not, _&&_}
 use lib.Dec.{leb, eqb}
 use Rattle.modem_record.specs.declared.Modem.{Modem}
 use Rattle.modem_rows.specs.declared.Event.{Event}
 use Rattle.modem_rows.specs.declared.Event.the-variants.{Start, Locked, ScanEmpty, TableAccepted, Packet, Tick, Enable, UpstreamUp, UpstreamLost, Disable, Hunt, DownstreamLost, Unnamed}
-use Rattle.modem.specs.declared.Answer.{Answer}
-use Rattle.modem.specs.declared.Answer.the-variants.{Done, ClockBack}
-use Rattle.modem.specs.declared.Stepped.{Stepped}
+use Rattle.modem_step.specs.declared.Answer.{Answer}
+use Rattle.modem_step.specs.declared.Answer.the-variants.{Done, ClockBack}
+use Rattle.modem_step.specs.declared.Stepped.{Stepped}
 use Rattle.modem_record.specs.Record.{countsIdle}
 use Rattle.modem_rows.specs.Events.{eventOn}
 
