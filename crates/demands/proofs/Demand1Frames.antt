@@ -24,8 +24,8 @@ use Rattle.choice.specs.declared.Choice.the-variants as choice
 use Rattle.order.specs.Best.{firstPlace}
 use Rattle.choice.specs.Choose.{chosenPlace, choiceOf, ruleAt}
 use Rattle.prepared.specs.declared.Tunnel.{Tunnel}
-use Rattle.tunnel.specs.declared.Verdict.{Verdict}
-use Rattle.tunnel.specs.declared.Verdict.the-variants as verdict
+use Rattle.payloads.specs.declared.Verdict.{Verdict}
+use Rattle.payloads.specs.declared.Verdict.the-variants as verdict
 use Rattle.matching.specs.Entry.{matchesEntry}
 use Rattle.packets.specs.Packets.{wrongLength, addressAt}
 use Rattle.tunnel.specs.Judge.{matchPlace, ruleVerdict, choiceVerdict, verdictOf}

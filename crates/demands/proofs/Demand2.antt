@@ -38,13 +38,14 @@ use Rattle.choice.proofs.rule_at.Reads as choice_rule_at
 use Rattle.choice.proofs.choose_rule.Reads as choose_rule
 use Rattle.choice.proofs.choose_rule.Statement as choose_rule′
 use Rattle.choice.proofs.choose_rule.Met as choose_rule″
-use Rattle.tunnel.specs.Judge.{verdictOf, payloadOf}
+use Rattle.tunnel.specs.Judge.{verdictOf}
+use Rattle.payloads.specs.Payload.{payloadOf}
 use Rattle.prepared.specs.Prepared.{lentTunnel, preparedVerdict}
 use Rattle.preparing.specs.Preparing.{preparedTunnel}
 use Rattle.tunnel.proofs.judge_frame.Reads as judge_frame
 use Rattle.tunnel.proofs.judge_frame.Statement as judge_frame′
 use Rattle.tunnel.proofs.judge_frame.Met as judge_frame″
-use Rattle.tunnel.proofs.payload.Reads as payload
+use Rattle.payloads.proofs.payload.Reads as payload
 use Rattle.preparing.proofs.prepare_tunnel.Reads as prepare_tunnel
 use Rattle.prepared.proofs.judge_prepared.Reads as judge_prepared
 use Rattle.prepared.proofs.judge_lent.Reads as judge_lent

@@ -1,10 +1,10 @@
--- `tunnel::payload_start` gives `payloadStart`: a return for each verdict.
+-- `payloads::payload_start` gives `payloadStart`: a return for each verdict.
 -- Trusts: nothing.
 use borrow.Author.Needs.{needs}
 use borrow.Author.Tests.{lt-ltb, le-ltb}
-use Rattle.tunnel.specs.Judge.{payloadStart}
-use Rattle.tunnel.proofs.payload_start.Statement.{statement}
-use Rattle.tunnel.proofs.payload_start.Tie as tie
+use Rattle.payloads.specs.Payload.{payloadStart}
+use Rattle.payloads.proofs.payload_start.Statement.{statement}
+use Rattle.payloads.proofs.payload_start.Tie as tie
 
 returns : tie.Need-returns
 unfolding payloadStart

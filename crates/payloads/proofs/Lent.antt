@@ -1,4 +1,4 @@
--- Laws of the payload (specs/Judge.antt).
+-- Laws of the payload (specs/Payload.antt).
 --
 --   payloadStart-le   it begins within the frame
 --   payloadOf-part    it is the part of the frame from there to its end
@@ -13,9 +13,9 @@ use lib.Dec.{ltb}
 use lib.ListN.{length, take, drop, length-drop}
 use lib.Seq.{take-all}
 use borrow.Author.Tests.{ltb-false, le-ltb}
-use Rattle.tunnel.specs.declared.Verdict.{Verdict}
-use Rattle.tunnel.specs.declared.Verdict.the-variants.{Refused, Other, Forward, Filtered}
-use Rattle.tunnel.specs.Judge.{payloadStart, payloadOf}
+use Rattle.payloads.specs.declared.Verdict.{Verdict}
+use Rattle.payloads.specs.declared.Verdict.the-variants.{Refused, Other, Forward, Filtered}
+use Rattle.payloads.specs.Payload.{payloadStart, payloadOf}
 
 pub payloadStart-le : (v : Verdict) (n : ℕ) → payloadStart v n ≤ n
 unfolding payloadStart

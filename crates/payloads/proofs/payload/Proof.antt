@@ -1,9 +1,9 @@
--- `tunnel::payload` lends `payloadOf`: the bytes from the start to the end.
+-- `payloads::payload` lends `payloadOf`: the bytes from the start to the end.
 -- Trusts: nothing.
 use borrow.Author.Needs.{needs}
-use Rattle.tunnel.proofs.Lent.{payloadStart-le, payloadOf-part}
-use Rattle.tunnel.proofs.payload.Statement.{statement}
-use Rattle.tunnel.proofs.payload.Tie as tie
+use Rattle.payloads.proofs.Lent.{payloadStart-le, payloadOf-part}
+use Rattle.payloads.proofs.payload.Statement.{statement}
+use Rattle.payloads.proofs.payload.Tie as tie
 
 returns : tie.Need-returns
 returns c = rw (c .before .payload-start .ensures) (payloadOf-part (c .before .before .before .args .verdict) _)
