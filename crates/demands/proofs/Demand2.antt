@@ -19,7 +19,7 @@ use Rattle.collection.proofs.empty_collection.Reads as empty_collection
 use Rattle.collector.proofs.collect.Reads as collect
 use Rattle.collector.proofs.collect.Statement as collect′
 use Rattle.collector.proofs.collect.Met as collect″
-use Rattle.lending.proofs.message.Reads as message
+use Rattle.messages.proofs.message.Reads as message
 use Rattle.lending.proofs.collect_lent as collect_lent
 use Rattle.lending.proofs.collect_lent.Statement as collect_lent′
 use Rattle.lending.proofs.collect_lent.Met as collect_lent″

@@ -17,7 +17,7 @@ use Rattle.modem_step.specs.declared.Stepped.{Stepped}
 use Rattle.reader.proofs.read_table.Reads as read_table
 use Rattle.collection.proofs.empty_collection.Reads as empty_collection
 use Rattle.collector.proofs.collect.Reads as collect
-use Rattle.lending.proofs.message.Reads as message
+use Rattle.messages.proofs.message.Reads as message
 use Rattle.order.proofs.is_better.Reads as is_better
 use Rattle.choice.proofs.rule_at.Reads as choice_rule_at
 use Rattle.choice.proofs.choose_rule.Reads as choose_rule

@@ -1,12 +1,12 @@
--- `lending::front` gives `take`, which is all of a list that is shorter.
+-- `messages::front` gives `take`, which is all of a list that is shorter.
 -- Trusts: nothing.
 use borrow.Author.Needs.{needs}
 use mathlib.Core.Path.{sym}
 use native.Mathlib.Omega.{arith}
 use denote.Ref.{now}
 use lib.Seq.{take-all, length-take-le}
-use Rattle.lending.proofs.front.Statement.{statement}
-use Rattle.lending.proofs.front.Tie as tie
+use Rattle.messages.proofs.front.Statement.{statement}
+use Rattle.messages.proofs.front.Tie as tie
 
 -- fewer than n
 returns-2 : tie.Need-returns-2

@@ -1,4 +1,4 @@
--- `lending::piece` gives the body from byte 3, and nothing where the body is shorter.
+-- `messages::piece` gives the body from byte 3, and nothing where the body is shorter.
 -- Trusts: nothing.
 use borrow.Author.Needs.{needs}
 use mathlib.Core.Path.{sym}
@@ -6,8 +6,8 @@ use native.Mathlib.Omega.{arith}
 use denote.Ref.{now}
 use lib.ListN.{drop-of-length-le}
 use Rattle.wire.proofs.Laws.{rest-all}
-use Rattle.lending.proofs.piece.Statement.{statement}
-use Rattle.lending.proofs.piece.Tie as tie
+use Rattle.messages.proofs.piece.Statement.{statement}
+use Rattle.messages.proofs.piece.Tie as tie
 
 returns : tie.Need-returns
 returns c = sym (drop-of-length-le (now (c .before .before .args .body)) {i = 3} (omega arith))

@@ -1,4 +1,4 @@
--- `lending::message` gives `lentOf`: the body's piece, the front of the join buffer, or nothing.
+-- `messages::message` gives `lentOf`: the body's piece, the front of the join buffer, or nothing.
 -- Trusts: nothing.
 use Prim.Native.Nat.{ℕ}
 use mathlib.Core.Path.{_≡_, refl, sym, _∙_}
@@ -13,8 +13,8 @@ use Rattle.collector.specs.Answers.{said, lentOf}
 use Rattle.collector.specs.declared.Answer.{Answer}
 use Rattle.collector.specs.declared.Answer.the-variants.{Refused, Repeat, Waiting, Complete}
 use Rattle.collector.proofs.Answer.{the-type}
-use Rattle.lending.proofs.message.Statement.{statement}
-use Rattle.lending.proofs.message.Tie as tie
+use Rattle.messages.proofs.message.Statement.{statement}
+use Rattle.messages.proofs.message.Tie as tie
 
 -- a variant before Complete lends nothing
 nothing : (a : Answer) (number : ℕ) (body join : List ℕ) → OneOf (0 ∷ 1 ∷ 2 ∷ []) (tagOf the-type a) → [] ≡ lentOf (said a) number body join
