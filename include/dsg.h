@@ -328,7 +328,7 @@ enum dsg_event_kind {
 
 /* One event at a clock in milliseconds, which runs over its top. Returns 0, or 18 where the clock went back.
  * Lent: the modem. Written: the modem. Refused (18): the modem holds what it held.
- * Definition: modem/specs/Numbers numberedStep; dsg_events/specs/Events eventStepped. */
+ * Definition: modem_step/specs/Numbers numberedStep; dsg_events/specs/Events eventStepped. */
 uint32_t dsg_event(struct dsg_modem *modem, uint32_t clock, uint8_t event, uint16_t a, uint16_t b, uint16_t c,
                    uint16_t d);
 

@@ -30,8 +30,8 @@ use Rattle.order.specs.Best.{comesBefore, anyOf, firstPlace, isBest, bestPlace}
 use Rattle.choice.specs.Choose.{isClient, listsClient, admitsUcid, fitsClient, chosenPlace, choiceOf}
 use Rattle.modem_record.specs.declared.Modem.{Modem}
 use Rattle.modem_rows.specs.declared.Event.{Event}
-use Rattle.modem.specs.declared.Stepped.{Stepped}
-use Rattle.modem.specs.Step.{steppedModem}
+use Rattle.modem_step.specs.declared.Stepped.{Stepped}
+use Rattle.modem_step.specs.Step.{steppedModem}
 use Rattle.modem.proofs.Controls as modem
 use Rattle.collector.specs.Answers.{waiting}
 use Rattle.collection.specs.Record.{wellMade}

@@ -34,8 +34,8 @@ use Rattle.choice.specs.Choose as choose
 use Rattle.choice.specs.declared.Choice.{Choice}
 use Rattle.choice.specs.declared.Choice.the-variants as choice
 use Rattle.prepared.specs.declared.Tunnel.{Tunnel}
-use Rattle.tunnel.specs.declared.Verdict as frames
-use Rattle.tunnel.specs.declared.Verdict.the-variants as verdict
+use Rattle.payloads.specs.declared.Verdict as frames
+use Rattle.payloads.specs.declared.Verdict.the-variants as verdict
 use Rattle.tunnel.specs.Judge.{verdictOf}
 use Rattle.prepared.specs.Prepared.{preparedVerdict}
 use Rattle.modem_record.specs.declared.Modem.{Modem}

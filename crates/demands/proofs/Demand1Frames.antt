@@ -24,19 +24,19 @@ use Rattle.choice.specs.declared.Choice.the-variants as choice
 use Rattle.order.specs.Best.{firstPlace}
 use Rattle.choice.specs.Choose.{chosenPlace, choiceOf, ruleAt}
 use Rattle.prepared.specs.declared.Tunnel.{Tunnel}
-use Rattle.tunnel.specs.declared.Verdict.{Verdict}
-use Rattle.tunnel.specs.declared.Verdict.the-variants as verdict
+use Rattle.payloads.specs.declared.Verdict.{Verdict}
+use Rattle.payloads.specs.declared.Verdict.the-variants as verdict
 use Rattle.matching.specs.Entry.{matchesEntry}
 use Rattle.packets.specs.Packets.{wrongLength, addressAt}
 use Rattle.tunnel.specs.Judge.{matchPlace, ruleVerdict, choiceVerdict, verdictOf}
 use Rattle.prepared.specs.Prepared.{entriesOf, preparedVerdict}
 use Rattle.modem_record.specs.declared.Modem.{Modem}
 use Rattle.modem_rows.specs.declared.Event.{Event}
-use Rattle.modem.specs.declared.Answer.{Answer}
-use Rattle.modem.specs.declared.Answer.the-variants as modem
-use Rattle.modem.specs.Step.{answerNumber, steppedModem, nextModem}
+use Rattle.modem_step.specs.declared.Answer.{Answer}
+use Rattle.modem_step.specs.declared.Answer.the-variants as modem
+use Rattle.modem_step.specs.Step.{answerNumber, steppedModem, nextModem}
 use Rattle.modem_rows.specs.Numbers.{eventOf}
-use Rattle.modem.specs.Numbers.{numberedStep}
+use Rattle.modem_step.specs.Numbers.{numberedStep}
 use Rattle.modem.proofs.LawsSending as sending
 
 -- ---- choosing

@@ -19,7 +19,7 @@ use Rattle.collection.proofs.empty_collection.Reads as empty_collection
 use Rattle.collector.proofs.collect.Reads as collect
 use Rattle.collector.proofs.collect.Statement as collect′
 use Rattle.collector.proofs.collect.Met as collect″
-use Rattle.lending.proofs.message.Reads as message
+use Rattle.messages.proofs.message.Reads as message
 use Rattle.lending.proofs.collect_lent as collect_lent
 use Rattle.lending.proofs.collect_lent.Statement as collect_lent′
 use Rattle.lending.proofs.collect_lent.Met as collect_lent″
@@ -38,27 +38,28 @@ use Rattle.choice.proofs.rule_at.Reads as choice_rule_at
 use Rattle.choice.proofs.choose_rule.Reads as choose_rule
 use Rattle.choice.proofs.choose_rule.Statement as choose_rule′
 use Rattle.choice.proofs.choose_rule.Met as choose_rule″
-use Rattle.tunnel.specs.Judge.{verdictOf, payloadOf}
+use Rattle.tunnel.specs.Judge.{verdictOf}
+use Rattle.payloads.specs.Payload.{payloadOf}
 use Rattle.prepared.specs.Prepared.{lentTunnel, preparedVerdict}
 use Rattle.preparing.specs.Preparing.{preparedTunnel}
 use Rattle.tunnel.proofs.judge_frame.Reads as judge_frame
 use Rattle.tunnel.proofs.judge_frame.Statement as judge_frame′
 use Rattle.tunnel.proofs.judge_frame.Met as judge_frame″
-use Rattle.tunnel.proofs.payload.Reads as payload
+use Rattle.payloads.proofs.payload.Reads as payload
 use Rattle.preparing.proofs.prepare_tunnel.Reads as prepare_tunnel
 use Rattle.prepared.proofs.judge_prepared.Reads as judge_prepared
 use Rattle.prepared.proofs.judge_lent.Reads as judge_lent
 use Rattle.modem_record.specs.declared.Modem.{Modem}
-use Rattle.modem.specs.declared.Answer.{Answer}
-use Rattle.modem.specs.declared.Stepped.{Stepped}
+use Rattle.modem_step.specs.declared.Answer.{Answer}
+use Rattle.modem_step.specs.declared.Stepped.{Stepped}
 use Rattle.modem_record.specs.Record as kept
 use Rattle.modem_record.specs.Record.{emptyModem}
-use Rattle.modem.specs.Step.{steppedModem}
-use Rattle.modem.specs.Numbers.{numberedStep}
+use Rattle.modem_step.specs.Step.{steppedModem}
+use Rattle.modem_step.specs.Numbers.{numberedStep}
 use Rattle.modem.proofs.step_modem.Reads as step_modem
 use Rattle.modem.proofs.step_modem.Statement as step_modem′
 use Rattle.modem.proofs.step_modem.Met as step_modem″
-use Rattle.modem.proofs.step_numbered.Reads as step_numbered
+use Rattle.modem_step.proofs.step_numbered.Reads as step_numbered
 use Rattle.modem_record.proofs.transmits.Reads as transmits
 use Rattle.modem_record.proofs.forwards.Reads as forwards
 use Rattle.modem_record.proofs.empty_modem.Reads as empty_modem

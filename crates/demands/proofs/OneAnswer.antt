@@ -13,16 +13,16 @@ use Rattle.demands.proofs.Demand2 as demand2
 use Rattle.collector.specs.Answers.{said}
 use Rattle.collector.specs.Step.{After}
 use Rattle.lending.specs.Lent.{LentAfter}
-use Rattle.modem.specs.declared.Stepped.{Stepped}
+use Rattle.modem_step.specs.declared.Stepped.{Stepped}
 use Rattle.reader.proofs.read_table.Reads as read_table
 use Rattle.collection.proofs.empty_collection.Reads as empty_collection
 use Rattle.collector.proofs.collect.Reads as collect
-use Rattle.lending.proofs.message.Reads as message
+use Rattle.messages.proofs.message.Reads as message
 use Rattle.order.proofs.is_better.Reads as is_better
 use Rattle.choice.proofs.rule_at.Reads as choice_rule_at
 use Rattle.choice.proofs.choose_rule.Reads as choose_rule
 use Rattle.tunnel.proofs.judge_frame.Reads as judge_frame
-use Rattle.tunnel.proofs.payload.Reads as payload
+use Rattle.payloads.proofs.payload.Reads as payload
 use Rattle.preparing.proofs.prepare_tunnel.Reads as prepare_tunnel
 use Rattle.prepared.proofs.judge_prepared.Reads as judge_prepared
 use Rattle.prepared.proofs.judge_lent.Reads as judge_lent
@@ -30,7 +30,7 @@ use Rattle.modem_record.proofs.empty_modem.Reads as empty_modem
 use Rattle.modem_record.proofs.counts_idle.Reads as counts_idle
 use Rattle.modem_rows.proofs.act.Reads as act
 use Rattle.modem.proofs.step_modem.Reads as step_modem
-use Rattle.modem.proofs.step_numbered.Reads as step_numbered
+use Rattle.modem_step.proofs.step_numbered.Reads as step_numbered
 use Rattle.modem_record.proofs.transmits.Reads as transmits
 use Rattle.modem_record.proofs.forwards.Reads as forwards
 use Rattle.receiver.specs.Receive.{told, Had}

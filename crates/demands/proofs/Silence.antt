@@ -14,14 +14,14 @@ use mathlib.Core.List.{List, [], _∷_}
 use mathlib.Core.Logic.{_⊎_, inl, inr}
 use native.Mathlib.Omega.{arith}
 use Rattle.modem_record.specs.declared.Modem.{Modem}
-use Rattle.modem.specs.declared.Stepped.{Stepped}
-use Rattle.modem.specs.declared.Answer.the-variants.{Done}
+use Rattle.modem_step.specs.declared.Stepped.{Stepped}
+use Rattle.modem_step.specs.declared.Answer.the-variants.{Done}
 use Rattle.modem_rows.specs.declared.Event.{Event}
 use Rattle.modem_rows.specs.declared.Event.the-variants.{Start, Locked, ScanEmpty, TableAccepted, Packet, Tick, Enable, UpstreamUp, UpstreamLost, Disable, Hunt, DownstreamLost, Unnamed}
 use Rattle.modem_record.specs.Record.{countsIdle, transmits}
 use Rattle.modem_rows.specs.Events.{disableRow, disableEvent, eventOn}
-use Rattle.modem.specs.Step.{isBack, isStart, aged, answerNumber, steppedModem, nextModem}
-use Rattle.modem.proofs.Laws.{steppedModem-ignored, steppedModem-back, steppedModem-taken}
+use Rattle.modem_step.specs.Step.{isBack, isStart, aged, answerNumber, steppedModem, nextModem}
+use Rattle.modem_step.proofs.Laws.{steppedModem-ignored, steppedModem-back, steppedModem-taken}
 use Rattle.modem.proofs.LawsFrame.{cond-field, cond-same, setsPermission, nextModem-permission}
 use Rattle.modem.proofs.LawsSending.{transmits-idle, transmits→permitted}
 

@@ -26,7 +26,7 @@ use Rattle.choice.specs.Choose.{isClient, listsClient, admitsUcid, fitsClient, 
 use Rattle.collector.specs.Answers.{Said, waiting, complete}
 use Rattle.collector_demands.specs.Runs.{replyOf}
 use Rattle.collector_demands.proofs.Bench.{M, firstBody, secondBody, cut-example}
-use Rattle.modem.specs.Step.{clockStep}
+use Rattle.modem_step.specs.Step.{clockStep}
 use Rattle.reader.proofs.Bench as reader
 use Rattle.reader.proofs.Bench.{tableM, withTdsg3}
 

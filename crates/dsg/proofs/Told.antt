@@ -13,9 +13,9 @@ use lib.Dec.{eqb}
 use borrow.Author.Tests.{le-ltb}
 use Rattle.wire.proofs.Laws.{rest-all}
 use Rattle.collector.specs.Answers.{complete, lentOf}
-use Rattle.tunnel.specs.declared.Verdict.{Verdict}
-use Rattle.tunnel.specs.declared.Verdict.the-variants.{Refused, Other, Forward, Filtered}
-use Rattle.tunnel.specs.Judge.{payloadStart, payloadOf}
+use Rattle.payloads.specs.declared.Verdict.{Verdict}
+use Rattle.payloads.specs.declared.Verdict.the-variants.{Refused, Other, Forward, Filtered}
+use Rattle.payloads.specs.Payload.{payloadStart, payloadOf}
 use Rattle.dsg_pieces.specs.Bodies.{collectedOf}
 use Rattle.dsg_frames.specs.Frames.{verdictAs}
 

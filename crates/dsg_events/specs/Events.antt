@@ -5,8 +5,8 @@
 -- Which event a number names, and what becomes of any other, is `eventOf` of crate modem_rows. Trusts: nothing.
 use Prim.Native.Nat.{ℕ}
 use Rattle.modem_record.specs.declared.Modem.{Modem}
-use Rattle.modem.specs.declared.Numbered.{Numbered}
-use Rattle.modem.specs.Numbers.{numberedStep}
+use Rattle.modem_step.specs.declared.Numbered.{Numbered}
+use Rattle.modem_step.specs.Numbers.{numberedStep}
 use Rattle.dsg_events.specs.declared.EventStepped.{EventStepped}
 
 abbrev pub steppedAs : Numbered → EventStepped

@@ -23,7 +23,7 @@ pub fn event_value(
 ) -> EventStepped
     ensures { λ r. ⌜ r ≡ eventStepped modem clock event a b c d ⌝ }
 {
-    let stepped = modem::step_numbered(modem, clock, event, a, b, c, d);
+    let stepped = modem_step::step_numbered(modem, clock, event, a, b, c, d);
     let next = stepped.modem;
     EventStepped {
         number: stepped.answer as u32,

@@ -19,8 +19,8 @@ use Rattle.choice.specs.declared.Ucid.{Ucid}
 use Rattle.choice.specs.declared.Ucid.the-variants.{Unknown, Known}
 use Rattle.choice.specs.declared.Choice as rules
 use Rattle.choice.specs.Choose.{choiceOf, refusalOf, placeOf}
-use Rattle.tunnel.specs.declared.Verdict as frames
-use Rattle.tunnel.specs.declared.Verdict.the-variants.{Refused, Other, Forward, Filtered}
+use Rattle.payloads.specs.declared.Verdict as frames
+use Rattle.payloads.specs.declared.Verdict.the-variants.{Refused, Other, Forward, Filtered}
 use Rattle.tunnel.specs.Judge.{verdictOf}
 use Rattle.dsg_frames.specs.declared.Choice.{Choice}
 use Rattle.dsg_frames.specs.declared.Verdict.{Verdict}

@@ -72,29 +72,29 @@ fn behind_head(length: usize) -> usize
 }
 
 // The numbers of a verdict on a frame of so many bytes.
-fn verdict_from(verdict: tunnel::Verdict, length: usize) -> Verdict
+fn verdict_from(verdict: payloads::Verdict, length: usize) -> Verdict
     ensures { λ r. ⌜ r ≡ verdictAs verdict length ⌝ }
 {
     match verdict {
-        tunnel::Verdict::Refused(n) => Verdict {
+        payloads::Verdict::Refused(n) => Verdict {
             kind: 0,
             number: n as u32,
             start: 0,
             length: 0,
         },
-        tunnel::Verdict::Other => Verdict {
+        payloads::Verdict::Other => Verdict {
             kind: 1,
             number: 0,
             start: 0,
             length: 0,
         },
-        tunnel::Verdict::Forward(n) => Verdict {
+        payloads::Verdict::Forward(n) => Verdict {
             kind: 2,
             number: n as u32,
             start: 14,
             length: behind_head(length),
         },
-        tunnel::Verdict::Filtered => Verdict {
+        payloads::Verdict::Filtered => Verdict {
             kind: 3,
             number: 0,
             start: 0,

@@ -1,56 +1,17 @@
-// The message that a body completes, lent back (document 01, "Collecting pieces").
+// A body collected, and the message that it completes lent back (document 01, "Collecting pieces").
 //
-// Two public functions. `message` lends the message that belongs to an outcome of the collector: a part of
-// the body or of the join buffer. `collect_lent` collects a body and does the same in one call, with the two
-// slices at their own lifetimes.
+// One public function, `collect_lent`: `collector::collect` and `messages::message` in one call, with the body and the
+// join buffer at their own lifetimes.
 //
-// Both take any outcome, record and buffers: where no message is complete, nothing is lent. Nothing is
-// written but what `collector::collect` writes.
+// It takes any record and buffers: where no message is complete, nothing is lent. Nothing is written but what
+// `collector::collect` writes.
 ghost use mathlib.Core.Path.{_≡_};
-ghost use lib.ListN.{length, take, drop};
-ghost use Rattle.collector.specs.Answers.{said, lentOf, ownOf, joinedOf};
-ghost use Rattle.body_tests.specs.Refusals.{pieceOf};
+ghost use lib.ListN.{length, drop};
+ghost use Rattle.collector.specs.Answers.{said, ownOf, joinedOf};
 ghost use Rattle.lending.specs.Lent.{LentAfter, lentStep};
 use collection::Collection;
-use collector::Answer;
 use collector::Outcome;
-
-// The first `n` bytes, or all where there are fewer.
-fn front<'a>(bytes: &'a [u8], n: usize) -> &'a [u8]
-    ensures { λ r. ⌜ now r ≡ take n (now (bytes .entry)) ⌝ }
-{
-    if n <= bytes.len() {
-        return &bytes[..n];
-    }
-    bytes
-}
-
-// The message bytes of a body.
-fn piece<'b>(body: &'b [u8]) -> &'b [u8]
-    ensures { λ r. ⌜ now r ≡ pieceOf (now (body .entry)) ⌝ }
-{
-    if body.len() < 3 {
-        return &body[..0];
-    }
-    &body[3..]
-}
-
-// The message that an outcome reports, lent from the body or the join buffer; nothing where none is complete.
-pub fn message<'a>(outcome: Outcome, body: &'a [u8], join: &'a [u8]) -> &'a [u8]
-    ensures { λ r. ⌜ now r ≡ lentOf (said (outcome .answer)) (outcome .held .number) (now (body .entry)) (now (join .entry)) ⌝ }
-{
-    let number = outcome.held.number;
-    let answer = outcome.answer;
-    match answer {
-        Answer::Complete(n) => {
-            if number == 1 {
-                return piece(body);
-            }
-            front(join, n)
-        }
-        Answer::Refused(_) | Answer::Repeat | Answer::Waiting(_) => front(body, 0),
-    }
-}
+use messages::message;
 
 // The bytes from the place `n` on, none where there are fewer.
 fn behind<'a>(bytes: &'a [u8], n: usize) -> &'a [u8]
@@ -70,7 +31,7 @@ fn own_part<'b>(outcome: Outcome, body: &'b [u8]) -> &'b [u8]
     if number == 1 {
         return message(outcome, body, body);
     }
-    front(body, 0)
+    &body[..0]
 }
 
 // The part of the join buffer that is lent with an outcome.
@@ -79,7 +40,7 @@ fn joined_part<'j>(outcome: Outcome, join: &'j [u8]) -> &'j [u8]
 {
     let number = outcome.held.number;
     if number == 1 {
-        return front(join, 0);
+        return &join[..0];
     }
     message(outcome, join, join)
 }

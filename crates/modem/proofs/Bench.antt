@@ -9,7 +9,7 @@ use Rattle.modem_record.specs.declared.Modem.{Modem}
 use Rattle.modem_rows.specs.declared.Event.the-variants.{Tick}
 use Rattle.modem_record.specs.Record.{isBroken, countsIdle}
 use Rattle.modem_rows.specs.Events.{tickEvent, restRow, wakeRow, retryRow, eventOn}
-use Rattle.modem.specs.Step.{clockStep, isBack, fallen, isStart, answerNumber, steppedModem}
+use Rattle.modem_step.specs.Step.{clockStep, isBack, fallen, isStart, answerNumber, steppedModem}
 use Prim.Native.Nat.{ℕ}
 
 pub clock-over-the-top : clockStep 0x00000100 0xFFFFFF00 ≡ 512

@@ -12,11 +12,11 @@ use native.Mathlib.Omega.{arith}
 use Rattle.modem_record.specs.declared.Modem.{Modem}
 use Rattle.modem_rows.specs.declared.Event.{Event}
 use Rattle.modem_rows.specs.declared.Event.the-variants.{Start, Tick, Disable}
-use Rattle.modem.specs.declared.Answer.the-variants.{Done}
-use Rattle.modem.specs.declared.Stepped.{Stepped}
+use Rattle.modem_step.specs.declared.Answer.the-variants.{Done}
+use Rattle.modem_step.specs.declared.Stepped.{Stepped}
 use Rattle.modem_record.specs.Record.{emptyModem, isBroken, countsIdle}
 use Rattle.modem_rows.specs.Events.{startRow, disableRow, disableEvent, eventOn}
-use Rattle.modem.specs.Step.{isBack, fallen, isStart, answerNumber, steppedModem}
+use Rattle.modem_step.specs.Step.{isBack, fallen, isStart, answerNumber, steppedModem}
 
 pub step-only : (f g : Modem → ℕ → Event → Stepped) → ((m : Modem) (now : ℕ) (ev : Event) → f m now ev ≡ steppedModem m now ev) → ((m : Modem) (now : ℕ) (ev : Event) → g m now ev ≡ steppedModem m now ev)
     → (m : Modem) (now : ℕ) (ev : Event) → f m now ev ≡ g m now ev

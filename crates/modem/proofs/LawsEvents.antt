@@ -12,14 +12,14 @@ use native.Mathlib.Omega.{arith}
 use lib.Dec.{eqb}
 use borrow.Author.Tests.{eqb-true}
 use Rattle.modem_record.specs.declared.Modem.{Modem}
-use Rattle.modem.specs.declared.Stepped.{Stepped}
+use Rattle.modem_step.specs.declared.Stepped.{Stepped}
 use Rattle.modem_rows.specs.declared.Event.{Event}
 use Rattle.modem_rows.specs.declared.Event.the-variants.{Start, Locked, ScanEmpty, TableAccepted, Packet, Tick, Enable, UpstreamUp, UpstreamLost, Disable, Hunt, DownstreamLost, Unnamed}
 use Rattle.modem_record.specs.States.{isAt, isSending, isPermitted, off, receiveOf, ucidOf}
 use Rattle.modem_record.specs.Record.{isBroken, wellKept, countsIdle, allowed, defaulted, valued}
 use Rattle.modem_rows.specs.Events.{startRow, heardRow, enableRow, disableRow, tableEvent, tickEvent, enableEvent, stopped, disableEvent, eventOn}
-use Rattle.modem.specs.Step.{isBack, isStart, aged, steppedModem, nextModem}
-use Rattle.modem.proofs.Laws.{steppedModem-start, steppedModem-ignored, steppedModem-back, steppedModem-taken}
+use Rattle.modem_step.specs.Step.{isBack, isStart, aged, steppedModem, nextModem}
+use Rattle.modem_step.proofs.Laws.{steppedModem-start, steppedModem-ignored, steppedModem-back, steppedModem-taken}
 use Rattle.modem.proofs.LawsKept.{Kept, countsIdle→Kept, Kept→wellKept, moved-kept, aged-kept}
 use Rattle.modem.proofs.LawsRows.{Fits, either, lockedRow-kept, emptyRow-kept, tableRow-kept, heardRow-kept, retryRow-kept, upRow-kept, sending-facts, lostRow-kept, restRow-kept, huntRow-kept, wakeRow-kept}
 

@@ -8,13 +8,13 @@ use mathlib.Core.Path.{_≡_, refl, _∙_, ap}
 use mathlib.Core.List.{List, [], _∷_}
 use mathlib.Core.Bool.{Bool, true, false, cond, true≢false}
 use Rattle.modem_record.specs.declared.Modem.{Modem}
-use Rattle.modem.specs.declared.Stepped.{Stepped}
+use Rattle.modem_step.specs.declared.Stepped.{Stepped}
 use Rattle.modem_rows.specs.declared.Event.{Event}
 use Rattle.modem_rows.specs.declared.Event.the-variants.{Start, Locked, ScanEmpty, TableAccepted, Packet, Tick, Enable, UpstreamUp, UpstreamLost, Disable, Hunt, DownstreamLost, Unnamed}
 use Rattle.modem_record.specs.Record.{countsIdle}
 use Rattle.modem_rows.specs.Events.{lockedRow, emptyRow, tableRow, heardRow, retryRow, enableRow, upRow, lostRow, disableRow, restRow, huntRow, wakeRow, tableEvent, tickEvent, enableEvent, disableEvent, eventOn}
-use Rattle.modem.specs.Step.{isBack, isStart, aged, nextModem}
-use Rattle.modem.proofs.Laws.{steppedModem-ignored, steppedModem-back, steppedModem-taken}
+use Rattle.modem_step.specs.Step.{isBack, isStart, aged, nextModem}
+use Rattle.modem_step.proofs.Laws.{steppedModem-ignored, steppedModem-back, steppedModem-taken}
 
 module _ {A : Type 0} where
   pub cond-same : (b : Bool) (n : A) → cond b n n ≡ n

@@ -14,7 +14,7 @@ use borrow.Author.Tests.{ltb-false, eqb-true, not-true, not-false, le-ltb, eq-eq
 use Rattle.modem_record.specs.declared.Modem.{Modem}
 use Rattle.modem_record.specs.States.{Marked, isAt, receiveOf, retryOf, loaded}
 use Rattle.modem_record.specs.Record.{receiveMark, retryMark, ucidMark, leastPermission, isOver, isSpoilt, isBroken, wellKept, countsIdle, moved}
-use Rattle.modem.specs.Step.{clockStep, fallen, aged}
+use Rattle.modem_step.specs.Step.{clockStep, fallen, aged}
 
 pub record Kept (m : Modem) : Type 0 where
   pub state : m .state ≤ 6

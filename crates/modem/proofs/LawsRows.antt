@@ -14,7 +14,7 @@ use Rattle.modem_record.specs.declared.Modem.{Modem}
 use Rattle.modem_record.specs.States.{isAt, isForwarding, isSending, isFour, isPermitted, isAtZero, off, none, known, loaded, receiveOf, retryOf, ucidOf}
 use Rattle.modem_record.specs.Record.{receiveMark, moved}
 use Rattle.modem_rows.specs.Events.{lockedRow, emptyRow, tableRow, heardRow, retryRow, upRow, lostRow, restRow, huntRow, wakeRow}
-use Rattle.modem.proofs.Laws.{and-left, and-right}
+use Rattle.modem_step.proofs.Laws.{and-left, and-right}
 use Rattle.modem.proofs.LawsKept.{Kept, moved-kept, loaded-fits}
 
 pub record Fits (m : Modem) : Type 0 where

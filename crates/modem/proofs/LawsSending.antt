@@ -13,16 +13,16 @@ use mathlib.Core.Bool.{Bool, true, false, cond, not, _&&_}
 use native.Mathlib.Omega.{arith}
 use borrow.Author.Tests.{not-true}
 use Rattle.modem_record.specs.declared.Modem.{Modem}
-use Rattle.modem.specs.declared.Stepped.{Stepped}
-use Rattle.modem.specs.declared.Answer.{Answer}
-use Rattle.modem.specs.declared.Answer.the-variants.{Done, ClockBack}
+use Rattle.modem_step.specs.declared.Stepped.{Stepped}
+use Rattle.modem_step.specs.declared.Answer.{Answer}
+use Rattle.modem_step.specs.declared.Answer.the-variants.{Done, ClockBack}
 use Rattle.modem_rows.specs.declared.Event.{Event}
 use Rattle.modem_rows.specs.declared.Event.the-variants.{Disable}
 use Rattle.modem_record.specs.States.{isSending, isForwarding}
 use Rattle.modem_record.specs.Record.{countsIdle, transmits, forwards}
 use Rattle.modem_rows.specs.Events.{disableRow, disableEvent, eventOn}
-use Rattle.modem.specs.Step.{isBack, isStart, aged, answerNumber, steppedModem, nextModem}
-use Rattle.modem.proofs.Laws.{and-left, and-right, steppedModem-ignored, steppedModem-back, steppedModem-taken}
+use Rattle.modem_step.specs.Step.{isBack, isStart, aged, answerNumber, steppedModem, nextModem}
+use Rattle.modem_step.proofs.Laws.{and-left, and-right, steppedModem-ignored, steppedModem-back, steppedModem-taken}
 use Rattle.modem.proofs.LawsKept.{Kept, countsIdle→Kept}
 use Rattle.modem.proofs.LawsFrame.{cond-field, cond-same, setsPermission, nextModem-permission}
 

@@ -1,5 +1,3 @@
--- Laws        what proofs, here and above, may know of the step and of an event's number
-pub mod Laws
 -- LawsKept    what a well-kept record is, claim by claim
 pub mod LawsKept
 -- LawsRows    each row keeps it so

@@ -3,7 +3,7 @@
 --   ..Row m other          one row of the table: where its state and condition fit, what it says; else `other`
 --   eventOn ev m           an event: the rows that name it, and the two sentences on Enable and Disable below the table
 --
--- Rows act on a record whose clock and timers have moved already (`aged` of crate modem). A pair that no row names gives m itself.
+-- Rows act on a record whose clock and timers have moved already (`aged` of crate modem_step). A pair that no row names gives m itself.
 -- Tested by: random records and events against the other program in host/. Trusts: nothing.
 use Prim.Native.Nat.{ℕ}
 use mathlib.Core.Bool.{Bool, cond, _&&_}

@@ -17,8 +17,8 @@ use Rattle.order.specs.Best.{firstPlace}
 use Rattle.matching.specs.declared.Entry.{Entry}
 use Rattle.packets.specs.Packets.{wrongLength, addressAt}
 use Rattle.matching.specs.Entry.{matchesEntry}
-use Rattle.tunnel.specs.declared.Verdict.{Verdict}
-use Rattle.tunnel.specs.declared.Verdict.the-variants.{Refused, Other, Forward, Filtered}
+use Rattle.payloads.specs.declared.Verdict.{Verdict}
+use Rattle.payloads.specs.declared.Verdict.the-variants.{Refused, Other, Forward, Filtered}
 use Rattle.prepared.specs.declared.Tunnel.{Tunnel}
 
 abbrev pub entryAt : Tunnel → ℕ → Entry

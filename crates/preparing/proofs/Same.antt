@@ -24,8 +24,8 @@ use Rattle.choice.proofs.Laws.{getD-there}
 use Rattle.choice.proofs.Fits.{choiceOf-17}
 use Rattle.matching.specs.declared.Entry.{Entry}
 use Rattle.prepared.specs.declared.Tunnel.{Tunnel}
-use Rattle.tunnel.specs.declared.Verdict.{Verdict}
-use Rattle.tunnel.specs.declared.Verdict.the-variants.{Refused, Other, Forward, Filtered}
+use Rattle.payloads.specs.declared.Verdict.{Verdict}
+use Rattle.payloads.specs.declared.Verdict.the-variants.{Refused, Other, Forward, Filtered}
 use Rattle.packets.specs.Packets.{wrongLength, addressAt}
 use Rattle.tunnel.specs.Judge.{matchPlace, ruleVerdict, choiceVerdict, verdictOf}
 use Rattle.matching.specs.Entry.{entryOf, matchesEntry}

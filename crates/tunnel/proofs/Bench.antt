@@ -14,9 +14,10 @@ use Rattle.choice.specs.declared.Ucid.the-variants.{Unknown}
 use Rattle.order.specs.Best.{comesBefore, anyOf, firstPlace, isBest, bestPlace}
 use Rattle.choice.specs.Choose.{isClient, listsClient, listsUcid, admitsUcid, fitsClient, chosenPlace, choiceOf}
 use Rattle.choice.proofs.Bench.{application42, tableM}
-use Rattle.tunnel.specs.declared.Verdict.the-variants.{Refused, Other, Forward}
+use Rattle.payloads.specs.declared.Verdict.the-variants.{Refused, Other, Forward}
 use Rattle.packets.specs.Packets.{wrongLength, addressAt}
-use Rattle.tunnel.specs.Judge.{ruleVerdict, choiceVerdict, verdictOf, payloadStart, payloadOf}
+use Rattle.tunnel.specs.Judge.{ruleVerdict, choiceVerdict, verdictOf}
+use Rattle.payloads.specs.Payload.{payloadStart, payloadOf}
 
 abbrev pub frameM : List ℕ
 frameM = 1 ∷ 0 ∷ 94 ∷ 5 ∷ 5 ∷ 5 ∷ 0 ∷ 0 ∷ 0 ∷ 0 ∷ 0 ∷ 0 ∷ 8 ∷ 0 ∷ 69 ∷ []

@@ -11,8 +11,8 @@ use Rattle.table.specs.declared.Table.{Table}
 use Rattle.choice.specs.declared.Ucid.{Ucid}
 use Rattle.choice.specs.declared.Ucid.the-variants.{Unknown}
 use Rattle.choice.proofs.Bench.{application42, tableM}
-use Rattle.tunnel.specs.declared.Verdict.{Verdict}
-use Rattle.tunnel.specs.declared.Verdict.the-variants.{Refused, Forward}
+use Rattle.payloads.specs.declared.Verdict.{Verdict}
+use Rattle.payloads.specs.declared.Verdict.the-variants.{Refused, Forward}
 use Rattle.tunnel.specs.Judge.{verdictOf}
 use Rattle.tunnel.proofs.Bench.{frameM, forwarded, unfit}
 

@@ -1,5 +1,4 @@
--- Lent: where the payload begins and ends. Verdicts: laws of the verdict. Bench: examples on message M. Controls: wrong programs, refuted.
-pub mod Lent
+-- Verdicts: laws of the verdict. Bench: examples on message M. Controls: wrong programs, refuted.
 pub mod Verdicts
 pub mod Bench
 pub mod Controls

@@ -19,8 +19,8 @@ use Rattle.choice.specs.declared.Choice.{Choice}
 use Rattle.choice.specs.declared.Choice.the-variants as choice
 use Rattle.choice.specs.Choose.{fitsClient, choiceOf, ruleAt}
 use Rattle.choice.proofs.Fits.{choiceOf-none}
-use Rattle.tunnel.specs.declared.Verdict.{Verdict}
-use Rattle.tunnel.specs.declared.Verdict.the-variants.{Refused, Other, Forward}
+use Rattle.payloads.specs.declared.Verdict.{Verdict}
+use Rattle.payloads.specs.declared.Verdict.the-variants.{Refused, Other, Forward}
 use Rattle.packets.specs.Packets.{wrongLength, addressAt}
 use Rattle.tunnel.specs.Judge.{ruleVerdict, choiceVerdict, verdictOf}
 

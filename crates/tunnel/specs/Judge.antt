@@ -4,14 +4,13 @@
 --                            greatest priority, then the smallest number; the count where none matches
 --   ruleVerdict t rule frame the verdict of a chosen rule: Other, Forward or Filtered
 --   verdictOf t c u frame    the verdict: 16, then 17, then the chosen rule's
---   payloadOf v frame        the part of the frame that is lent back: from byte 14 on with Forward, else nothing
 --
 -- A number that no classifier of the table carries never matches; of a repeated number every entry is tried.
 -- Tested by: random tables and frames against the other program. Trusts: nothing.
 use Prim.Native.Nat.{ℕ}
 use mathlib.Core.Bool.{cond, not, _&&_}
 use mathlib.Core.List.{List}
-use lib.ListN.{length, getD, drop}
+use lib.ListN.{length, getD}
 use lib.Dec.{ltb, eqb}
 use Rattle.table.specs.declared.Client.{Client}
 use Rattle.table.specs.declared.Rule.{Rule}
@@ -23,8 +22,8 @@ use Rattle.choice.specs.declared.Choice.{Choice}
 use Rattle.choice.specs.declared.Choice.the-variants as choice
 use Rattle.order.specs.Best.{bestPlace}
 use Rattle.choice.specs.Choose.{choiceOf, ruleAt}
-use Rattle.tunnel.specs.declared.Verdict.{Verdict}
-use Rattle.tunnel.specs.declared.Verdict.the-variants.{Refused, Other, Forward, Filtered}
+use Rattle.payloads.specs.declared.Verdict.{Verdict}
+use Rattle.payloads.specs.declared.Verdict.the-variants.{Refused, Other, Forward, Filtered}
 use Rattle.packets.specs.Packets.{wrongLength, addressAt}
 use Rattle.matching.specs.Match.{namesNumber, matchesFrame}
 
@@ -45,13 +44,3 @@ choiceVerdict t frame (choice.Chosen place) = ruleVerdict t (ruleAt t place) fra
 
 unfoldable pub verdictOf : Table → Client → Ucid → List ℕ → Verdict
 verdictOf t c u frame = cond (wrongLength frame) (Refused 16) (choiceVerdict t frame (choiceOf t c u))
-
--- where the part begins that is lent back of a frame of n bytes; it ends with the frame
-unfoldable pub payloadStart : Verdict → ℕ → ℕ
-payloadStart (Refused k) n = n
-payloadStart Other n = n
-payloadStart (Forward k) n = cond (ltb n 14) n 14
-payloadStart Filtered n = n
-
-unfoldable pub payloadOf : Verdict → List ℕ → List ℕ
-payloadOf v frame = drop (payloadStart v (length frame)) frame

@@ -1,8 +1,8 @@
 // Judges a frame by a table and a client (document 01, "Choosing and judging").
 //
-// Public functions: `judge_frame` gives the verdict, `payload` lends the part of a forwarded frame back. Both
-// take any input: a frame of a wrong length is refusal 16, a client that no rule fits refusal 17, and a count
-// above its limit is read as the limit. Nothing that is lent is written.
+// One public function, `judge_frame`, which gives the verdict. It takes any input: a frame of a wrong length is
+// refusal 16, a client that no rule fits refusal 17, and a count above its limit is read as the limit. Nothing that is
+// lent is written.
 use choice::Choice;
 use choice::Ucid;
 use choice::choose_rule;
@@ -16,6 +16,7 @@ use order::is_better;
 use packets::Packet;
 use packets::read_packet;
 use packets::wrong_length;
+use payloads::Verdict;
 use table::Classifier;
 use table::Client;
 use table::Rule;
@@ -26,19 +27,7 @@ ghost use mathlib.Core.Bool.{_&&_};
 ghost use Rattle.order.specs.Best.{bestAfter};
 ghost use Rattle.matching.specs.Match.{namesNumber};
 ghost use Rattle.matching.specs.Entry.{entryOf, fitsPacket};
-ghost use Rattle.tunnel.specs.Judge.{matchPlace, ruleVerdict, verdictOf, payloadStart, payloadOf};
-
-// The verdict on a frame.
-pub enum Verdict {
-    // The number of the refusal, 16 or 17.
-    Refused(u8),
-    // A frame of another address.
-    Other,
-    // Forwarded; the number of the matching classifier, 0 where the rule names none.
-    Forward(u16),
-    // No classifier that the rule names matches.
-    Filtered,
-}
+ghost use Rattle.tunnel.specs.Judge.{matchPlace, ruleVerdict, verdictOf};
 
 // The best so far after the classifier at place `at`.
 fn take_classifier(
@@ -127,30 +116,4 @@ pub fn judge_frame(table: Table, client: Client, ucid: Ucid, frame: &[u8]) -> Ve
             judge_rule(table, rule, frame)
         }
     }
-}
-
-// Where the part begins that a verdict lends back of a frame of n bytes.
-fn payload_start(verdict: Verdict, n: usize) -> usize
-    ensures { λ r. ⌜ r ≡ payloadStart verdict n ⌝ }
-{
-    match verdict {
-        Verdict::Refused(_) => n,
-        Verdict::Other => n,
-        Verdict::Forward(_) => {
-            if n < 14 {
-                return n;
-            }
-            14
-        }
-        Verdict::Filtered => n,
-    }
-}
-
-// The part of the frame that the verdict lends back: of a forwarded frame the bytes from 14 on, else none.
-pub fn payload(verdict: Verdict, frame: &[u8]) -> &[u8]
-    ensures { λ r. ⌜ now r ≡ payloadOf verdict (now (frame .entry)) ⌝ }
-{
-    let n = frame.len();
-    let from = payload_start(verdict, n);
-    &frame[from..n]
 }

@@ -12,7 +12,7 @@ use Rattle.lending.proofs.joined_part.Statement.{statement}
 use Rattle.lending.proofs.joined_part.Tie as tie
 
 returns : tie.Need-returns
-returns c = simp (eq-eqb _ _ (c .before .if1 .taken)) (c .front .ensures)
+returns c = rw (eq-eqb _ _ (c .before .if1 .taken))
 
 returns-2 : tie.Need-returns-2
 returns-2 c =
@@ -21,4 +21,4 @@ returns-2 c =
     rw e (c .message .ensures ∙ lentOf-joined (said (a .outcome .answer)) (a .outcome .held .number) (now (a .join)) [] (now (a .join)) e)
 
 pub joined-part-spec : {M : Type 1} → statement M
-joined-part-spec = tie.close (tie.spec (λ c κs. search needs) returns (λ c κs. search needs) returns-2)
+joined-part-spec = tie.close (tie.spec (λ c. search needs) returns (λ c κs. search needs) returns-2)

@@ -18,7 +18,7 @@ returns c =
     rw e (c .message .ensures ∙ lentOf-own (said (a .outcome .answer)) (a .outcome .held .number) (now (a .body)) (now (a .body)) [] e)
 
 returns-2 : tie.Need-returns-2
-returns-2 c = simp (ne-eqb _ _ (c .before .if1 .left)) (c .front .ensures)
+returns-2 c = rw (ne-eqb _ _ (c .before .if1 .left))
 
 pub own-part-spec : {M : Type 1} → statement M
-own-part-spec = tie.close (tie.spec (λ c κs. search needs) returns (λ c κs. search needs) returns-2)
+own-part-spec = tie.close (tie.spec (λ c κs. search needs) returns (λ c. search needs) returns-2)

@@ -3,7 +3,7 @@
 use borrow.Author.Needs.{needs}
 use borrow.Author.Tests.{lt-ltb}
 use native.Mathlib.Omega.{arith}
-use Rattle.modem.proofs.Laws.{startOf-mark}
+use Rattle.modem_step.proofs.Laws.{startOf-mark}
 use Rattle.modem_rows.specs.Numbers.{eventOf}
 use Rattle.modem.proofs.numbers_of.Statement.{statement}
 use Rattle.modem.proofs.numbers_of.Tie as tie

@@ -43,19 +43,19 @@ use denote.Triple.Clauses.{ensured, lasts}
 use denote.Triple.Table.{entered, cited}
 use denote.Triple.Walked.{says, Stays, stay-ref, stay-none, stay-none-ref, stay-none-slice, gave-slice, walkOf, AllGo, goes-none, goes-none-ref, goes-none-slice, goes-gave-slice, goes-ref, Walks, ends-at, walked, walk-meets}
 use denote.Exit.{yes}
-use Rattle.modem.specs.Step.{steppedModem}
+use Rattle.modem_step.specs.Step.{steppedModem}
 use Rattle.modem_record.specs.declared.Modem.{Modem}
 use Rattle.modem_record.proofs.Modem as D0
 use Rattle.modem_record.proofs.Modem.Laws as D0′
-use Rattle.modem.specs.declared.Answer.{Answer}
-use Rattle.modem.proofs.Answer as D1
-use Rattle.modem.proofs.Answer.Laws as D1′
+use Rattle.modem_step.specs.declared.Answer.{Answer}
+use Rattle.modem_step.proofs.Answer as D1
+use Rattle.modem_step.proofs.Answer.Laws as D1′
 use Rattle.modem_rows.specs.declared.Event.{Event}
 use Rattle.modem_rows.proofs.Event as D2
 use Rattle.modem_rows.proofs.Event.Laws as D2′
-use Rattle.modem.specs.declared.Stepped.{Stepped}
-use Rattle.modem.proofs.Stepped as D3
-use Rattle.modem.proofs.Stepped.Laws as D3′
+use Rattle.modem_step.specs.declared.Stepped.{Stepped}
+use Rattle.modem_step.proofs.Stepped as D3
+use Rattle.modem_step.proofs.Stepped.Laws as D3′
 use Rattle.modem.proofs.step_modem as step-modem
 use Rattle.modem.proofs.step_modem.Symbol as step-modem-def
 use Rattle.modem.proofs.step_modem.Symbol.{name as #modem·step-modem}

@@ -1,8 +1,8 @@
 -- `modem::step_modem` gives `steppedModem`: the numbers name the event, and the answer's number gives the answer back.
 -- Trusts: nothing.
 use borrow.Author.Needs.{needs}
-use Rattle.modem.proofs.Laws.{answerOf-back}
-use Rattle.modem.specs.Numbers.{numberedStep}
+use Rattle.modem_step.proofs.Laws.{answerOf-back}
+use Rattle.modem_step.specs.Numbers.{numberedStep}
 use Rattle.modem.proofs.step_modem.Statement.{statement}
 use Rattle.modem.proofs.step_modem.Tie as tie
 

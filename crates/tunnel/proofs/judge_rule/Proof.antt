@@ -11,7 +11,7 @@ use Rattle.table.specs.declared.Classifier.{Classifier}
 use Rattle.table.specs.declared.Table.{Table}
 use Rattle.table.specs.Table.{limitedTo, classifiersOf, emptyClassifier}
 use Rattle.choice.proofs.Laws.{taken-at}
-use Rattle.tunnel.specs.declared.Verdict.the-variants.{Forward}
+use Rattle.payloads.specs.declared.Verdict.the-variants.{Forward}
 use Rattle.packets.specs.Packets.{addressAt}
 use Rattle.tunnel.specs.Judge.{ruleVerdict}
 use Rattle.tunnel.proofs.judge_rule.Statement.{statement}

@@ -1,0 +1,2 @@
+-- Lent: where the payload begins and ends.
+pub mod Lent
