@@ -21,7 +21,8 @@ use Rattle.numbers.specs.Numbers.{numberAt}
 use Rattle.wire.specs.Bytes.{pasted}
 use Rattle.elements.specs.Elements.{headAt}
 use Rattle.types.specs.Types.{knownTypes}
-use Rattle.types.specs.Places.{childOf, under, placed, typeOf, parentIn, table, lineAt, placeIn, knownAt, typeUnder, missingIn, lacksMust}
+use Rattle.types.specs.Places.{childOf, under, placed, typeOf, parentIn, table, lineAt, placeIn, knownAt, typeUnder}
+use Rattle.musts.specs.Musts.{missingIn, lacksMust}
 use Rattle.table.specs.Table.{rulesOf, classifiersOf, numbersOf, emptyTable}
 use Rattle.table.specs.declared.Classifier.{Classifier}
 use Rattle.table.specs.declared.Table.{Table}

@@ -20,7 +20,7 @@ use Rattle.table.proofs.empty_classifier.Reads as empty_classifier
 use Rattle.table.proofs.empty_table.Reads as empty_table
 use Rattle.elements.proofs.read_head.Reads as read_head
 use Rattle.types.proofs.find_type.Reads as find_type
-use Rattle.types.proofs.lacks_must.Reads as lacks_must
+use Rattle.musts.proofs.lacks_must.Reads as lacks_must
 use Rattle.element_tests.proofs.own_tests.Reads as own_tests
 use Rattle.rows.proofs.empty_tally.Reads as empty_tally
 use Rattle.rows.proofs.test_element.Reads as test_element
@@ -84,6 +84,8 @@ empty_table-one κs = only (parts.empty_table-gives κs)
 
 pub find_type-one : (κs : Lfts 0) → One answer (find_type.Post κs)
 find_type-one κs = only (parts.find_type-gives κs)
+
+-- ---- musts
 
 pub lacks_must-one : (κs : Lfts 1) → One answer (lacks_must.Post κs)
 lacks_must-one κs = only (parts.lacks_must-gives κs)

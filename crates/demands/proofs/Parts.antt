@@ -1,4 +1,4 @@
--- Parts: what the public functions of the lower crates give (wire, table, types, elements, element_tests, rows, clients, rules, classifiers, configurations, named, collection, packets, matching, listing, bodies): each its definition, for every input.
+-- Parts: what the public functions of the lower crates give (wire, table, types, musts, elements, element_tests, rows, clients, rules, classifiers, configurations, named, collection, packets, matching, listing, bodies): each its definition, for every input.
 --
 -- It says nothing of what the definitions mean; docs/MAP.md says where they stand. `met` of each function, in its own crate, says that the
 -- compiled function meets the contract cited here.
@@ -25,9 +25,10 @@ use Rattle.table.proofs.empty_classifier.Reads as empty_classifier
 use Rattle.table.proofs.empty_table.Reads as empty_table
 use Rattle.elements.specs.Elements.{headAt}
 use Rattle.elements.proofs.read_head.Reads as read_head
-use Rattle.types.specs.Places.{typeUnder, lacksMust}
+use Rattle.types.specs.Places.{typeUnder}
+use Rattle.musts.specs.Musts.{lacksMust}
 use Rattle.types.proofs.find_type.Reads as find_type
-use Rattle.types.proofs.lacks_must.Reads as lacks_must
+use Rattle.musts.proofs.lacks_must.Reads as lacks_must
 use Rattle.element_tests.specs.Tests.{ownTests}
 use Rattle.element_tests.proofs.own_tests.Reads as own_tests
 use Rattle.rows.specs.Tests.{emptyTally}
@@ -107,6 +108,8 @@ empty_table-gives κs a x s h = h
 
 pub find_type-gives : (κs : Lfts 0) → Gives answer (find_type.Post κs) (λ a. typeUnder (a .0) (a .1 .0))
 find_type-gives κs a x s h = h
+
+-- ---- musts
 
 pub lacks_must-gives : (κs : Lfts 1) → Gives answer (lacks_must.Post κs) (λ a. lacksMust (a .0) (now (a .1 .0)))
 lacks_must-gives κs a x s h = h
