@@ -12,7 +12,7 @@ use Rattle.numbers.proofs.number2.Reads as number2
 use Rattle.numbers.proofs.number4.Reads as number4
 use Rattle.numbers.proofs.number6.Reads as number6
 use Rattle.wire.proofs.copy_at.Reads as copy_at
-use Rattle.wire.proofs.same_bytes.Reads as same_bytes
+use Rattle.compare.proofs.same_bytes.Reads as same_bytes
 use Rattle.table.proofs.limited.Reads as limited
 use Rattle.table.proofs.empty_client.Reads as empty_client
 use Rattle.table.proofs.empty_rule.Reads as empty_rule
@@ -43,7 +43,7 @@ use Rattle.listing.proofs.list_table.Reads as list_table
 use Rattle.listing.proofs.list_refusal.Reads as list_refusal
 use Rattle.listing.proofs.list_waiting.Reads as list_waiting
 
--- ---- wire
+-- ---- numbers
 
 pub number1-one : (κs : Lfts 1) → One answer (number1.Post κs)
 number1-one κs = only (parts.number1-gives κs)
@@ -57,8 +57,12 @@ number4-one κs = only (parts.number4-gives κs)
 pub number6-one : (κs : Lfts 1) → One answer (number6.Post κs)
 number6-one κs = only (parts.number6-gives κs)
 
+-- ---- wire
+
 pub copy_at-one : (κs : Lfts 2) → One (λ x s. now (s .0)) (copy_at.Post κs)
 copy_at-one κs = only (parts.copy_at-gives κs)
+
+-- ---- compare
 
 pub same_bytes-one : (κs : Lfts 2) → One answer (same_bytes.Post κs)
 same_bytes-one κs = only (parts.same_bytes-gives κs)

@@ -1,4 +1,4 @@
--- Parts: what the public functions of the lower crates give (wire, table, types, musts, elements, element_tests, rows, clients, rules, classifiers, configurations, named, collection, packets, matching, listing, bodies): each its definition, for every input.
+-- Parts: what the public functions of the lower crates give (numbers, wire, compare, table, types, musts, elements, element_tests, rows, clients, rules, classifiers, configurations, named, collection, packets, matching, listing, bodies): each its definition, for every input.
 --
 -- It says nothing of what the definitions mean; docs/MAP.md says where they stand. `met` of each function, in its own crate, says that the
 -- compiled function meets the contract cited here.
@@ -10,13 +10,14 @@ use contract.Lifetimes.{Lfts}
 use denote.Ref.{now}
 use Rattle.demands.proofs.Contract.{Gives, answer}
 use Rattle.numbers.specs.Numbers.{numberAt}
-use Rattle.wire.specs.Bytes.{pasted, sameBytes}
+use Rattle.wire.specs.Bytes.{pasted}
+use Rattle.compare.specs.Compare.{sameBytes}
 use Rattle.numbers.proofs.number1.Reads as number1
 use Rattle.numbers.proofs.number2.Reads as number2
 use Rattle.numbers.proofs.number4.Reads as number4
 use Rattle.numbers.proofs.number6.Reads as number6
 use Rattle.wire.proofs.copy_at.Reads as copy_at
-use Rattle.wire.proofs.same_bytes.Reads as same_bytes
+use Rattle.compare.proofs.same_bytes.Reads as same_bytes
 use Rattle.table.specs.Table.{limitedTo, emptyClient, emptyRule, emptyClassifier, emptyTable}
 use Rattle.table.proofs.limited.Reads as limited
 use Rattle.table.proofs.empty_client.Reads as empty_client
@@ -67,7 +68,7 @@ use Rattle.listing.proofs.list_table.Reads as list_table
 use Rattle.listing.proofs.list_refusal.Reads as list_refusal
 use Rattle.listing.proofs.list_waiting.Reads as list_waiting
 
--- ---- wire
+-- ---- numbers
 
 pub number1-gives : (κs : Lfts 1) → Gives answer (number1.Post κs) (λ a. numberAt 1 (now (a .0)) (a .1 .0))
 number1-gives κs a x s h = h
@@ -81,8 +82,12 @@ number4-gives κs a x s h = h
 pub number6-gives : (κs : Lfts 1) → Gives answer (number6.Post κs) (λ a. numberAt 6 (now (a .0)) (a .1 .0))
 number6-gives κs a x s h = h
 
+-- ---- wire
+
 pub copy_at-gives : (κs : Lfts 2) → Gives (λ x s. now (s .0)) (copy_at.Post κs) (λ a. pasted (now (a .0)) (a .1 .0) (now (a .1 .1 .0)))
 copy_at-gives κs a x s h = h
+
+-- ---- compare
 
 pub same_bytes-gives : (κs : Lfts 2) → Gives answer (same_bytes.Post κs) (λ a. sameBytes (now (a .0)) (now (a .1 .0)))
 same_bytes-gives κs a x s h = h
