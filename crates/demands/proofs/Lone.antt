@@ -34,7 +34,8 @@ use Rattle.element_tests.specs.Tests.{secondCopy, wrongLength, noChannel, badVa
 use Rattle.rows.specs.Tests.{isRow, rowEnd, noneCounted, emptyTally}
 use Rattle.rows.specs.Rows as rows
 use Rattle.rows.specs.Rows.{elementWith, rowStep, rowOf, elementOf, testedAt}
-use Rattle.named.specs.Named.{isListed, classifierNumbers, unanswered, namedPlace, loneNumber}
+use Rattle.listed.specs.Listed.{isListed}
+use Rattle.named.specs.Named.{classifierNumbers, unanswered, namedPlace, loneNumber}
 use Rattle.named.specs.declared.Found.the-variants.{Number}
 use Rattle.reader.specs.Take.{withRule, withElement, tableOf, isTaken}
 use Rattle.reader.specs.Read.{readTable}

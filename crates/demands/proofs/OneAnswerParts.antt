@@ -28,7 +28,7 @@ use Rattle.clients.proofs.read_clients.Reads as read_clients
 use Rattle.rules.proofs.rule_at.Reads as rule_at
 use Rattle.classifiers.proofs.classifier_at.Reads as classifier_at
 use Rattle.configurations.proofs.configuration_at.Reads as configuration_at
-use Rattle.named.proofs.is_listed.Reads as is_listed
+use Rattle.listed.proofs.is_listed.Reads as is_listed
 use Rattle.named.proofs.lone_number.Reads as lone_number
 use Rattle.collection.proofs.begin.Reads as begin
 use Rattle.collection.proofs.is_of.Reads as is_of
@@ -126,10 +126,12 @@ classifier_at-one κs = only (parts.classifier_at-gives κs)
 pub configuration_at-one : (κs : Lfts 1) → One answer (configuration_at.Post κs)
 configuration_at-one κs = only (parts.configuration_at-gives κs)
 
--- ---- named
+-- ---- listed
 
 pub is_listed-one : (κs : Lfts 1) → One answer (is_listed.Post κs)
 is_listed-one κs = only (parts.is_listed-gives κs)
+
+-- ---- named
 
 pub lone_number-one : (κs : Lfts 1) → One answer (lone_number.Post κs)
 lone_number-one κs = only (parts.lone_number-gives κs)

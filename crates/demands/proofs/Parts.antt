@@ -1,4 +1,4 @@
--- Parts: what the public functions of the lower crates give (numbers, wire, compare, table, types, musts, elements, element_tests, rows, clients, rules, classifiers, configurations, named, collection, packets, matching, listing, bodies): each its definition, for every input.
+-- Parts: what the public functions of the lower crates give (numbers, wire, compare, table, types, musts, elements, element_tests, rows, clients, rules, classifiers, configurations, listed, named, collection, packets, matching, listing, bodies): each its definition, for every input.
 --
 -- It says nothing of what the definitions mean; docs/MAP.md says where they stand. `met` of each function, in its own crate, says that the
 -- compiled function meets the contract cited here.
@@ -44,8 +44,9 @@ use Rattle.clients.proofs.read_clients.Reads as read_clients
 use Rattle.rules.proofs.rule_at.Reads as rule_at
 use Rattle.classifiers.proofs.classifier_at.Reads as classifier_at
 use Rattle.configurations.proofs.configuration_at.Reads as configuration_at
-use Rattle.named.specs.Named.{isAmong, loneNumber}
-use Rattle.named.proofs.is_listed.Reads as is_listed
+use Rattle.listed.specs.Listed.{isAmong}
+use Rattle.named.specs.Named.{loneNumber}
+use Rattle.listed.proofs.is_listed.Reads as is_listed
 use Rattle.named.proofs.lone_number.Reads as lone_number
 use Rattle.collection.specs.Record.{isOf, emptyCollection}
 use Rattle.collection.specs.Refusals.{refusalOf}
@@ -151,10 +152,12 @@ classifier_at-gives κs a x s h = h
 pub configuration_at-gives : (κs : Lfts 1) → Gives answer (configuration_at.Post κs) (λ a. configurationAt (now (a .0)) (a .1 .0))
 configuration_at-gives κs a x s h = h
 
--- ---- named
+-- ---- listed
 
 pub is_listed-gives : (κs : Lfts 1) → Gives answer (is_listed.Post κs) (λ a. isAmong (a .1 .1 .0) (limitedTo 32 (a .1 .0)) (now (a .0)))
 is_listed-gives κs a x s h = h
+
+-- ---- named
 
 pub lone_number-gives : (κs : Lfts 1) → Gives answer (lone_number.Post κs) (λ a. loneNumber (now (a .0)) (a .1 .0))
 lone_number-gives κs a x s h = h
