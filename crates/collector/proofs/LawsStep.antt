@@ -13,7 +13,7 @@ use native.Mathlib.Omega.{arith}
 use borrow.Author.Tests.{eqb-true, eq-eqb, ne-eqb}
 use lib.ListN.{length, getD, set, getD-replicate, drop}
 use lib.Dec.{eqb}
-use Rattle.wire.specs.Bytes.{sameBytes}
+use Rattle.compare.specs.Compare.{sameBytes}
 use Rattle.wire.proofs.Laws.{both}
 use Rattle.collector.specs.Answers.{refused, again, waiting, complete}
 use Rattle.collection.specs.Record.{isFilled, emptySlots, wellMade, isOf, emptyCollection}

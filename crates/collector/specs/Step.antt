@@ -11,7 +11,8 @@ use mathlib.Core.Bool.{cond}
 use mathlib.Core.List.{List, _++_}
 use lib.ListN.{length, getD, drop, set}
 use lib.Dec.{eqb}
-use Rattle.wire.specs.Bytes.{pasted, sameBytes}
+use Rattle.wire.specs.Bytes.{pasted}
+use Rattle.compare.specs.Compare.{sameBytes}
 use Rattle.collection.specs.declared.Collection.{Collection}
 use Rattle.collection.specs.Record.{isFilled, emptySlots, isOf, emptyCollection}
 use Rattle.body_tests.specs.Refusals.{countOf, numberOf, slotOf, pieceOf, refusalOf}

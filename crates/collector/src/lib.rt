@@ -10,7 +10,8 @@ ghost use mathlib.Core.Path.{_≡_};
 ghost use Prim.Native.Nat.{ℕ, _-_, _*_, _+_, _≤_, _<_};
 ghost use mathlib.Core.List.{_++_};
 ghost use lib.ListN.{length, take, drop, getD};
-ghost use Rattle.wire.specs.Bytes.{pasted, sameBytes};
+ghost use Rattle.wire.specs.Bytes.{pasted};
+ghost use Rattle.compare.specs.Compare.{sameBytes};
 ghost use Rattle.collection.specs.Record.{emptySlots};
 ghost use Rattle.body_tests.specs.Refusals.{numberOf, pieceOf, Fits};
 ghost use Rattle.collector.specs.Pieces.{joined};
@@ -66,7 +67,7 @@ fn has_piece(slots: &[u8], k: usize, len: usize, body: &[u8]) -> bool
     ensures { λ r. ⌜ r ≡ sameBytes (take len (drop (k * 1500) (now (slots .entry)))) (pieceOf (now (body .entry))) ⌝ }
 {
     let at = k * body_tests::SLOT_BYTES;
-    wire::same_bytes(&slots[at..at + len], &body[3..])
+    compare::same_bytes(&slots[at..at + len], &body[3..])
 }
 
 // How the body stands to what is held.

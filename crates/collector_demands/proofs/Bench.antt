@@ -14,7 +14,7 @@ use mathlib.Core.List.{List, [], _∷_, _++_}
 use mathlib.Core.Logic.{_⊎_, inl, inr}
 use native.Mathlib.Omega.{arith}
 use lib.ListN.{length, getD, take, drop, replicate, take-append-drop}
-use Rattle.wire.specs.Bytes.{sameBytes}
+use Rattle.compare.specs.Compare.{sameBytes}
 use Rattle.collector.specs.Answers.{refused, again, waiting, complete, lentOf}
 use Rattle.collection.specs.Record.{soundTo, emptySlots, wellMade, isOf, emptyCollection}
 use Rattle.collector.specs.Pieces.{pieceAt}

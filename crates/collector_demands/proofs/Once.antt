@@ -13,7 +13,7 @@ use native.Mathlib.Omega.{arith}
 use borrow.Author.Tests.{eqb-true, eqb-false, eq-eqb, ne-eqb, le-ltb}
 use lib.ListN.{length, getD, drop}
 use lib.Dec.{eqb, ltb}
-use Rattle.wire.proofs.Laws.{sameBytes-refl}
+use Rattle.compare.proofs.Laws.{sameBytes-refl}
 use Rattle.collector.specs.Answers.{Said, refused, again, waiting, complete}
 use Rattle.body_tests.specs.Refusals.{countOf, numberOf, slotOf, pieceOf, bodyRefusal}
 use Rattle.collector_demands.specs.Runs.{Slot, empty, full, isFull, bytesOf, accepts, lookup, takes, continues, runOf, missing, message, Reply, reply, storedReply, replyOf}

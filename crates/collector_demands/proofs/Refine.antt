@@ -13,8 +13,9 @@ use borrow.Author.Tests.{eqb-true, eqb-false, eq-eqb, ne-eqb, le-ltb}
 use lib.ListN.{length, getD, take, drop, length-drop}
 use lib.Seq.{take-append-seam}
 use lib.Dec.{eqb, ltb}
-use Rattle.wire.specs.Bytes.{pasted, sameBytes}
-use Rattle.wire.proofs.Laws.{sameBytes-true}
+use Rattle.wire.specs.Bytes.{pasted}
+use Rattle.compare.specs.Compare.{sameBytes}
+use Rattle.compare.proofs.Laws.{sameBytes-true}
 use Rattle.collector.specs.Answers.{Said, refused, again, waiting, complete, lentOf}
 use Rattle.collection.specs.Record.{isFilled, emptySlots, wellMade, isOf, emptyCollection}
 use Rattle.collector.specs.Pieces.{pieceAt, joined}

@@ -18,7 +18,7 @@ use mathlib.Core.Bool.{Bool, true, false, cond, _&&_}
 use mathlib.Core.List.{List, [], _∷_, _++_}
 use lib.ListN.{length, getD}
 use lib.Dec.{eqb}
-use Rattle.wire.specs.Bytes.{sameBytes}
+use Rattle.compare.specs.Compare.{sameBytes}
 use Rattle.collector.specs.Answers.{Said, refused, again, waiting, complete}
 use Rattle.collection.specs.Record.{isFilled, wellMade}
 use Rattle.collector.specs.Pieces.{pieceAt}

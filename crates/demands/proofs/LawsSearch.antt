@@ -14,7 +14,8 @@ use lib.ListN.{length, getD, take}
 use Rattle.table.specs.Table.{emptyRule, rulesOf, numbersOf}
 use Rattle.table.specs.declared.Rule.{Rule}
 use Rattle.table.specs.declared.Table.{Table}
-use Rattle.named.specs.Named.{isListed, classifierNumbers, loneIn, loneOf, unanswered}
+use Rattle.listed.specs.Listed.{isListed}
+use Rattle.named.specs.Named.{classifierNumbers, loneIn, loneOf, unanswered}
 use Rattle.named.specs.declared.Found.{Found}
 use Rattle.named.specs.declared.Found.the-variants.{Number}
 

@@ -16,7 +16,7 @@ use Rattle.numbers.specs.Numbers.{numberAt}
 use Rattle.table.specs.Table.{emptyRule}
 use Rattle.children.specs.Rows.{rowInside, placesOf}
 use Rattle.rules.specs.Rules.{ruleAt}
-use Rattle.named.specs.Named.{isListed}
+use Rattle.listed.specs.Listed.{isListed}
 use Rattle.demands.proofs.LawsOrder.{numbersOf-ruleAt}
 use Rattle.demands.proofs.LawsAscend.{Ascending, ascending-behind, inside-ascends, inside-after, Apart, apart-behind}
 use Rattle.demands.proofs.LawsSearch.{FirstNumber, FirstLone}

@@ -7,7 +7,7 @@ use Prim.Native.Nat.{ℕ}
 use mathlib.Core.Path.{_≡_, refl, ap, _∙_}
 use mathlib.Core.List.{List, [], _∷_}
 use lib.ListN.{getD, replicate}
-use Rattle.wire.specs.Bytes.{sameBytes}
+use Rattle.compare.specs.Compare.{sameBytes}
 use Rattle.table.specs.Table.{emptyTable, limitedTo, rulesOf, classifiersOf, channelsOf, clientsOf, numbersOf}
 use Rattle.collector.specs.Answers.{complete}
 use Rattle.body_tests.specs.Refusals.{bodyRefusal}

@@ -21,7 +21,8 @@ use Rattle.numbers.specs.Numbers.{numberAt}
 use Rattle.wire.specs.Bytes.{pasted}
 use Rattle.elements.specs.Elements.{headAt}
 use Rattle.types.specs.Types.{knownTypes}
-use Rattle.types.specs.Places.{childOf, under, placed, typeOf, parentIn, table, lineAt, placeIn, knownAt, typeUnder, missingIn, lacksMust}
+use Rattle.types.specs.Places.{childOf, under, placed, typeOf, parentIn, table, lineAt, placeIn, knownAt, typeUnder}
+use Rattle.musts.specs.Musts.{missingIn, lacksMust}
 use Rattle.table.specs.Table.{rulesOf, classifiersOf, numbersOf, emptyTable}
 use Rattle.table.specs.declared.Classifier.{Classifier}
 use Rattle.table.specs.declared.Table.{Table}
@@ -33,7 +34,8 @@ use Rattle.element_tests.specs.Tests.{secondCopy, wrongLength, noChannel, badVa
 use Rattle.rows.specs.Tests.{isRow, rowEnd, noneCounted, emptyTally}
 use Rattle.rows.specs.Rows as rows
 use Rattle.rows.specs.Rows.{elementWith, rowStep, rowOf, elementOf, testedAt}
-use Rattle.named.specs.Named.{isListed, classifierNumbers, unanswered, namedPlace, loneNumber}
+use Rattle.listed.specs.Listed.{isListed}
+use Rattle.named.specs.Named.{classifierNumbers, unanswered, namedPlace, loneNumber}
 use Rattle.named.specs.declared.Found.the-variants.{Number}
 use Rattle.reader.specs.Take.{withRule, withElement, tableOf, isTaken}
 use Rattle.reader.specs.Read.{readTable}

@@ -12,7 +12,7 @@ use Rattle.numbers.proofs.number2.Reads as number2
 use Rattle.numbers.proofs.number4.Reads as number4
 use Rattle.numbers.proofs.number6.Reads as number6
 use Rattle.wire.proofs.copy_at.Reads as copy_at
-use Rattle.wire.proofs.same_bytes.Reads as same_bytes
+use Rattle.compare.proofs.same_bytes.Reads as same_bytes
 use Rattle.table.proofs.limited.Reads as limited
 use Rattle.table.proofs.empty_client.Reads as empty_client
 use Rattle.table.proofs.empty_rule.Reads as empty_rule
@@ -20,7 +20,7 @@ use Rattle.table.proofs.empty_classifier.Reads as empty_classifier
 use Rattle.table.proofs.empty_table.Reads as empty_table
 use Rattle.elements.proofs.read_head.Reads as read_head
 use Rattle.types.proofs.find_type.Reads as find_type
-use Rattle.types.proofs.lacks_must.Reads as lacks_must
+use Rattle.musts.proofs.lacks_must.Reads as lacks_must
 use Rattle.element_tests.proofs.own_tests.Reads as own_tests
 use Rattle.rows.proofs.empty_tally.Reads as empty_tally
 use Rattle.rows.proofs.test_element.Reads as test_element
@@ -28,7 +28,7 @@ use Rattle.clients.proofs.read_clients.Reads as read_clients
 use Rattle.rules.proofs.rule_at.Reads as rule_at
 use Rattle.classifiers.proofs.classifier_at.Reads as classifier_at
 use Rattle.configurations.proofs.configuration_at.Reads as configuration_at
-use Rattle.named.proofs.is_listed.Reads as is_listed
+use Rattle.listed.proofs.is_listed.Reads as is_listed
 use Rattle.named.proofs.lone_number.Reads as lone_number
 use Rattle.collection.proofs.begin.Reads as begin
 use Rattle.collection.proofs.is_of.Reads as is_of
@@ -43,7 +43,7 @@ use Rattle.listing.proofs.list_table.Reads as list_table
 use Rattle.listing.proofs.list_refusal.Reads as list_refusal
 use Rattle.listing.proofs.list_waiting.Reads as list_waiting
 
--- ---- wire
+-- ---- numbers
 
 pub number1-one : (κs : Lfts 1) → One answer (number1.Post κs)
 number1-one κs = only (parts.number1-gives κs)
@@ -57,8 +57,12 @@ number4-one κs = only (parts.number4-gives κs)
 pub number6-one : (κs : Lfts 1) → One answer (number6.Post κs)
 number6-one κs = only (parts.number6-gives κs)
 
+-- ---- wire
+
 pub copy_at-one : (κs : Lfts 2) → One (λ x s. now (s .0)) (copy_at.Post κs)
 copy_at-one κs = only (parts.copy_at-gives κs)
+
+-- ---- compare
 
 pub same_bytes-one : (κs : Lfts 2) → One answer (same_bytes.Post κs)
 same_bytes-one κs = only (parts.same_bytes-gives κs)
@@ -84,6 +88,8 @@ empty_table-one κs = only (parts.empty_table-gives κs)
 
 pub find_type-one : (κs : Lfts 0) → One answer (find_type.Post κs)
 find_type-one κs = only (parts.find_type-gives κs)
+
+-- ---- musts
 
 pub lacks_must-one : (κs : Lfts 1) → One answer (lacks_must.Post κs)
 lacks_must-one κs = only (parts.lacks_must-gives κs)
@@ -120,10 +126,12 @@ classifier_at-one κs = only (parts.classifier_at-gives κs)
 pub configuration_at-one : (κs : Lfts 1) → One answer (configuration_at.Post κs)
 configuration_at-one κs = only (parts.configuration_at-gives κs)
 
--- ---- named
+-- ---- listed
 
 pub is_listed-one : (κs : Lfts 1) → One answer (is_listed.Post κs)
 is_listed-one κs = only (parts.is_listed-gives κs)
+
+-- ---- named
 
 pub lone_number-one : (κs : Lfts 1) → One answer (lone_number.Post κs)
 lone_number-one κs = only (parts.lone_number-gives κs)

@@ -1,4 +1,4 @@
--- Parts: what the public functions of the lower crates give (wire, table, types, elements, element_tests, rows, clients, rules, classifiers, configurations, named, collection, packets, matching, listing, bodies): each its definition, for every input.
+-- Parts: what the public functions of the lower crates give (numbers, wire, compare, table, types, musts, elements, element_tests, rows, clients, rules, classifiers, configurations, listed, named, collection, packets, matching, listing, bodies): each its definition, for every input.
 --
 -- It says nothing of what the definitions mean; docs/MAP.md says where they stand. `met` of each function, in its own crate, says that the
 -- compiled function meets the contract cited here.
@@ -10,13 +10,14 @@ use contract.Lifetimes.{Lfts}
 use denote.Ref.{now}
 use Rattle.demands.proofs.Contract.{Gives, answer}
 use Rattle.numbers.specs.Numbers.{numberAt}
-use Rattle.wire.specs.Bytes.{pasted, sameBytes}
+use Rattle.wire.specs.Bytes.{pasted}
+use Rattle.compare.specs.Compare.{sameBytes}
 use Rattle.numbers.proofs.number1.Reads as number1
 use Rattle.numbers.proofs.number2.Reads as number2
 use Rattle.numbers.proofs.number4.Reads as number4
 use Rattle.numbers.proofs.number6.Reads as number6
 use Rattle.wire.proofs.copy_at.Reads as copy_at
-use Rattle.wire.proofs.same_bytes.Reads as same_bytes
+use Rattle.compare.proofs.same_bytes.Reads as same_bytes
 use Rattle.table.specs.Table.{limitedTo, emptyClient, emptyRule, emptyClassifier, emptyTable}
 use Rattle.table.proofs.limited.Reads as limited
 use Rattle.table.proofs.empty_client.Reads as empty_client
@@ -25,9 +26,10 @@ use Rattle.table.proofs.empty_classifier.Reads as empty_classifier
 use Rattle.table.proofs.empty_table.Reads as empty_table
 use Rattle.elements.specs.Elements.{headAt}
 use Rattle.elements.proofs.read_head.Reads as read_head
-use Rattle.types.specs.Places.{typeUnder, lacksMust}
+use Rattle.types.specs.Places.{typeUnder}
+use Rattle.musts.specs.Musts.{lacksMust}
 use Rattle.types.proofs.find_type.Reads as find_type
-use Rattle.types.proofs.lacks_must.Reads as lacks_must
+use Rattle.musts.proofs.lacks_must.Reads as lacks_must
 use Rattle.element_tests.specs.Tests.{ownTests}
 use Rattle.element_tests.proofs.own_tests.Reads as own_tests
 use Rattle.rows.specs.Tests.{emptyTally}
@@ -42,8 +44,9 @@ use Rattle.clients.proofs.read_clients.Reads as read_clients
 use Rattle.rules.proofs.rule_at.Reads as rule_at
 use Rattle.classifiers.proofs.classifier_at.Reads as classifier_at
 use Rattle.configurations.proofs.configuration_at.Reads as configuration_at
-use Rattle.named.specs.Named.{isAmong, loneNumber}
-use Rattle.named.proofs.is_listed.Reads as is_listed
+use Rattle.listed.specs.Listed.{isAmong}
+use Rattle.named.specs.Named.{loneNumber}
+use Rattle.listed.proofs.is_listed.Reads as is_listed
 use Rattle.named.proofs.lone_number.Reads as lone_number
 use Rattle.collection.specs.Record.{isOf, emptyCollection}
 use Rattle.body_tests.specs.Refusals.{refusalOf}
@@ -66,7 +69,7 @@ use Rattle.listing.proofs.list_table.Reads as list_table
 use Rattle.listing.proofs.list_refusal.Reads as list_refusal
 use Rattle.listing.proofs.list_waiting.Reads as list_waiting
 
--- ---- wire
+-- ---- numbers
 
 pub number1-gives : (κs : Lfts 1) → Gives answer (number1.Post κs) (λ a. numberAt 1 (now (a .0)) (a .1 .0))
 number1-gives κs a x s h = h
@@ -80,8 +83,12 @@ number4-gives κs a x s h = h
 pub number6-gives : (κs : Lfts 1) → Gives answer (number6.Post κs) (λ a. numberAt 6 (now (a .0)) (a .1 .0))
 number6-gives κs a x s h = h
 
+-- ---- wire
+
 pub copy_at-gives : (κs : Lfts 2) → Gives (λ x s. now (s .0)) (copy_at.Post κs) (λ a. pasted (now (a .0)) (a .1 .0) (now (a .1 .1 .0)))
 copy_at-gives κs a x s h = h
+
+-- ---- compare
 
 pub same_bytes-gives : (κs : Lfts 2) → Gives answer (same_bytes.Post κs) (λ a. sameBytes (now (a .0)) (now (a .1 .0)))
 same_bytes-gives κs a x s h = h
@@ -107,6 +114,8 @@ empty_table-gives κs a x s h = h
 
 pub find_type-gives : (κs : Lfts 0) → Gives answer (find_type.Post κs) (λ a. typeUnder (a .0) (a .1 .0))
 find_type-gives κs a x s h = h
+
+-- ---- musts
 
 pub lacks_must-gives : (κs : Lfts 1) → Gives answer (lacks_must.Post κs) (λ a. lacksMust (a .0) (now (a .1 .0)))
 lacks_must-gives κs a x s h = h
@@ -143,10 +152,12 @@ classifier_at-gives κs a x s h = h
 pub configuration_at-gives : (κs : Lfts 1) → Gives answer (configuration_at.Post κs) (λ a. configurationAt (now (a .0)) (a .1 .0))
 configuration_at-gives κs a x s h = h
 
--- ---- named
+-- ---- listed
 
 pub is_listed-gives : (κs : Lfts 1) → Gives answer (is_listed.Post κs) (λ a. isAmong (a .1 .1 .0) (limitedTo 32 (a .1 .0)) (now (a .0)))
 is_listed-gives κs a x s h = h
+
+-- ---- named
 
 pub lone_number-gives : (κs : Lfts 1) → Gives answer (lone_number.Post κs) (λ a. loneNumber (now (a .0)) (a .1 .0))
 lone_number-gives κs a x s h = h

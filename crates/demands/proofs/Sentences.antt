@@ -18,7 +18,8 @@ use Rattle.table.specs.declared.Table.{Table}
 use Rattle.table.specs.Table.{rulesOf, classifiersOf, clientsOf, numbersOf, emptyClient, emptyRule, emptyTable}
 use Rattle.elements.specs.Elements.{headAt}
 use Rattle.types.specs.Types.{knownTypes}
-use Rattle.types.specs.Places.{childOf, under, placed, typeOf, parentIn, table, lineAt, placeIn, knownAt, typeUnder, missingIn, lacksMust}
+use Rattle.types.specs.Places.{childOf, under, placed, typeOf, parentIn, table, lineAt, placeIn, knownAt, typeUnder}
+use Rattle.musts.specs.Musts.{missingIn, lacksMust}
 use Rattle.rows.specs.declared.Tally.{Tally}
 use Rattle.element_tests.specs.Tests.{secondCopy, wrongLength, noChannel, badValue, isFull, ownTests}
 use Rattle.rows.specs.Tests.{isRow, rowEnd, emptyTally}

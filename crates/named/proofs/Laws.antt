@@ -22,7 +22,8 @@ use Rattle.table.specs.Table.{rulesOf, numbersOf}
 use Rattle.table.specs.declared.Rule.{Rule}
 use Rattle.table.specs.declared.Table.{Table}
 use Rattle.children.specs.Rows.{Row, done, bad, item, rowWith, rowFrom, rowIn, rowOfHead, rowInside, typeAt, placesOf}
-use Rattle.named.specs.Named.{isListed, classifierNumbers, loneIn, loneOf, unanswered, namedPlace, placed, loneNumber}
+use Rattle.listed.specs.Listed.{isListed}
+use Rattle.named.specs.Named.{classifierNumbers, loneIn, loneOf, unanswered, namedPlace, placed, loneNumber}
 use Rattle.named.specs.declared.Found.{Found}
 use Rattle.named.specs.declared.Found.the-variants.{Nothing, Number}
 use Rattle.named.specs.declared.Lone.the-variants.{Answered, At}

@@ -6,7 +6,7 @@
 --   placed-nothing, placed-number          where what is found stands
 -- Trusts: nothing.
 use Prim.Native.Nat.{ℕ, _+_, _≤_, _<_}
-use mathlib.Core.Path.{_≡_, refl, sym, ap, _∙_}
+use mathlib.Core.Path.{_≡_, sym, _∙_}
 use mathlib.Core.Bool.{Bool, true, false, cond}
 use mathlib.Core.List.{List, map}
 use native.Mathlib.Omega.{arith}
@@ -16,14 +16,13 @@ use Rattle.table.specs.declared.Rule.{Rule}
 use Rattle.table.specs.declared.Classifier.{Classifier}
 use Rattle.table.specs.declared.Table.{Table}
 use Rattle.table.proofs.Laws.{limitedTo-le}
-use Rattle.named.specs.Named.{isListed, classifierNumbers, loneIn, loneOf, unanswered, namedPlace, placed, loneNumber}
+use Rattle.listed.specs.Listed.{isListed}
+use Rattle.listed.proofs.Laws.{front-all}
+use Rattle.named.specs.Named.{classifierNumbers, loneIn, loneOf, unanswered, namedPlace, loneNumber}
 use Rattle.named.specs.declared.Found.{Found}
 use Rattle.named.specs.declared.Found.the-variants.{Nothing, Number}
 use Rattle.named.specs.declared.Lone.the-variants.{Answered, At}
-use Rattle.named.proofs.Lists.{front-next, front-end, front-all}
-
-pub limited-le : (limit n : ℕ) {m : ℕ} → m ≡ limitedTo limit n → m ≤ limit
-limited-le limit n e = rw e (limitedTo-le limit n)
+use Rattle.named.proofs.Lists.{front-next, front-end}
 
 module _ (carried : List ℕ) (t : Table) (d : Rule) (i : ℕ) where
   pub lone-rule : length (t .rules) ≡ 32 → i < limitedTo 32 (t .rulecount)

@@ -1,7 +1,6 @@
--- Lists: a list that is walked. LawsListed: a number looked up in a list. LawsLone: test 15's search. LawsPlaces: where elements of a
--- type stand. Laws: what a caller learns of test 15.
+-- Lists: a list that is walked. LawsLone: test 15's search. LawsPlaces: where elements of a type stand. Laws: what a caller learns
+-- of test 15.
 pub mod Lists
-pub mod LawsListed
 pub mod LawsLone
 pub mod LawsPlaces
 pub mod Laws

@@ -1,19 +1,15 @@
 -- Lists of which the first n are used: what stands next on a walk over them, and what gathering one more of them does.
 --
 --   front-next   at place i of the first n      front-end   past the last of them
---   front-all    a count above the length means all          front-gathered   the number of one more is noted
+--   front-gathered   the number of one more is noted
 -- Trusts: nothing.
 use Prim.Native.Nat.{ℕ, zero, suc, _+_, _-_, _≤_, _<_}
 use mathlib.Core.Path.{_≡_, refl, sym, ap, _∙_}
-use mathlib.Core.Bool.{Bool, true, false, cond}
 use mathlib.Core.List.{List, [], _∷_, _++_, map}
 use native.Mathlib.Omega.{arith}
 use native.Mathlib.Numerals.{add-one}
-use borrow.Author.Tests.{ltb-true}
 use lib.ListN.{length, take, drop, getD, set, length-take, drop-of-length-le}
-use lib.Seq.{drop-cons, length-take-le, getD-take, take-suc, take-suc-set, take-all}
-use lib.Dec.{ltb}
-use Rattle.table.specs.Table.{limitedTo}
+use lib.Seq.{drop-cons, length-take-le, getD-take, take-suc, take-suc-set}
 
 module _ {A : Type 0} (l : List A) (d : A) (n i : ℕ) (h : i < n) (k : n ≤ length l) where
   pub front-next : drop i (take n l) ≡ getD l i d ∷ drop (i + 1) (take n l)
@@ -23,14 +19,6 @@ module _ {A : Type 0} (l : List A) (d : A) (n i : ℕ) (h : i < n) (k : n ≤ le
 
 pub front-end : {A : Type 0} (l : List A) (n i : ℕ) → n ≤ i → drop i (take n l) ≡ []
 front-end l n i h = drop-of-length-le (take n l) {i = i} (simp length-take (omega arith))
-
--- the first n of a list that has no more than the limit
-pub front-all : {A : Type 0} (l : List A) (limit n : ℕ) → length l ≡ limit → take (limitedTo limit n) l ≡ take n l
-front-all l limit n e = on (ltb limit n) refl
-  where
-    on : (b : Bool) → ltb limit n ≡ b → take (cond b limit n) l ≡ take n l
-    on true y = let h = ltb-true limit n y in take-all limit l (omega arith) ∙ sym (take-all n l (omega arith))
-    on false y = refl
 
 -- the n-th but for the first
 pub getD-later : (x : ℕ) (xs : List ℕ) (n : ℕ) → (n ≡ 0 → ⊥) → getD xs (n - 1) 0 ≡ getD (x ∷ xs) n 0

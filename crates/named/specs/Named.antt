@@ -1,7 +1,5 @@
 -- Named: the classifier numbers that rules name, and test 15 (document 01, "Refusal numbers").
 --
---   isListed n l           whether the number is in the list
---   isAmong n k l          whether it is at one of the first k places; 0 stands past the end of the list
 --   classifierNumbers t    the numbers that the classifiers of t carry
 --   unanswered t           the first number that a rule of t names and no classifier of t carries, as rule i, number j; or Nothing
 --   namedPlace msg i j     where the j-th 50.6 of the i-th 50 stands (both counted from 0)
@@ -10,27 +8,19 @@
 -- A table that is not the message's has its numbers looked for at places that the message need not have: such a place is 0.
 -- Tested by: proofs/Bench.antt of the crate reader.
 -- Trusts: nothing.
-use Prim.Native.Nat.{ℕ, zero, suc, _+_}
-use mathlib.Core.Bool.{Bool, false, cond, _||_}
+use Prim.Native.Nat.{ℕ, _+_}
+use mathlib.Core.Bool.{cond}
 use mathlib.Core.List.{List, [], _∷_, map}
 use lib.ListN.{length, getD}
-use lib.Dec.{eqb}
 use Rattle.table.specs.Table.{rulesOf, classifiersOf, numbersOf}
 use Rattle.table.specs.declared.Rule.{Rule}
 use Rattle.table.specs.declared.Table.{Table}
+use Rattle.listed.specs.Listed.{isListed}
 use Rattle.children.specs.Rows.{rowIn, rowInside, placesOf}
 use Rattle.named.specs.declared.Found.{Found}
 use Rattle.named.specs.declared.Found.the-variants.{Nothing, Number}
 use Rattle.named.specs.declared.Lone.{Lone}
 use Rattle.named.specs.declared.Lone.the-variants.{Answered, At}
-
-abbrev pub isListed : ℕ → List ℕ → Bool
-isListed n [] = false
-isListed n (x ∷ xs) = eqb x n || isListed n xs
-
-abbrev pub isAmong : ℕ → ℕ → List ℕ → Bool
-isAmong n zero l = false
-isAmong n (suc k) l = eqb (getD l k 0) n || isAmong n k l
 
 abbrev pub classifierNumbers : Table → List ℕ
 classifierNumbers t = map (λ q. q .number) (classifiersOf t)

@@ -1,8 +1,7 @@
 // The classifier numbers that rules name: test 15.
 //
-// Two public functions, which take any input. `lone_number` answers where the first 50.6 of a message stands whose number no
-// classifier of a table carries; `is_listed` looks a number up in a list of 32, for this test and for test 14. Counts above
-// their limits are read as the limits. They write nothing that is lent.
+// One public function, which takes any input: `lone_number` answers where the first 50.6 of a message stands whose number no
+// classifier of a table carries. Counts above their limits are read as the limits. It writes nothing that is lent.
 use elements::Head;
 use table::Rule;
 use table::Table;
@@ -11,7 +10,7 @@ ghost use Prim.Native.Nat.{_≤_};
 ghost use lib.ListN.{length, getD, take};
 ghost use Rattle.children.specs.Rows.{rowIn, placesOf};
 ghost use Rattle.table.specs.Table.{limitedTo, rulesOf};
-ghost use Rattle.named.specs.Named.{isAmong, classifierNumbers, loneOf, namedPlace, loneNumber};
+ghost use Rattle.named.specs.Named.{classifierNumbers, loneOf, namedPlace, loneNumber};
 
 // Whether every classifier number that the rules name is carried by a classifier.
 pub enum Lone {
@@ -27,22 +26,6 @@ pub enum Found {
     Nothing,
     // Rule i's number j is the first that is not.
     Number(usize, usize),
-}
-
-// Whether the number is among the first `count` of the list. It looks at every one, so that the loop has one way out.
-pub fn is_listed(list: &[u16; 32], count: u8, number: u16) -> bool
-    ensures { λ r. ⌜ r ≡ isAmong number (limitedTo 32 count) (now (list .entry)) ⌝ }
-{
-    let end = table::limited(count, 32);
-    let mut listed = false;
-    let mut i = 0;
-    while i < end {
-        if list[i] == number {
-            listed = true;
-        }
-        i += 1;
-    }
-    listed
 }
 
 // Where the n-th element of this type (counted from 0) stands in the row `from` to `end`; 0 if there are fewer.
@@ -98,7 +81,7 @@ fn first_unanswered(table: Table, carried: &[u16; 32]) -> Found
         let numbers = named_count(rule);
         let mut j = 0;
         while j < numbers {
-            if !is_listed(carried, table.classifiercount, rule.numbers[j]) {
+            if !listed::is_listed(carried, table.classifiercount, rule.numbers[j]) {
                 found = Found::Number(i, j);
                 break 'search;
             }

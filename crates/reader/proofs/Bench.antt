@@ -17,7 +17,8 @@ use Rattle.table.specs.declared.Rule.{Rule}
 use Rattle.table.specs.declared.Table.{Table}
 use Rattle.elements.specs.Elements.{headAt}
 use Rattle.types.specs.Types.{knownTypes}
-use Rattle.types.specs.Places.{childOf, under, placed, typeOf, parentIn, table, lineAt, placeIn, knownAt, typeUnder, missingIn, lacksMust}
+use Rattle.types.specs.Places.{childOf, under, placed, typeOf, parentIn, table, lineAt, placeIn, knownAt, typeUnder}
+use Rattle.musts.specs.Musts.{missingIn, lacksMust}
 use Rattle.element_tests.specs.Tests.{secondCopy, wrongLength, noChannel, badValue, isFull, ownTests}
 use Rattle.rows.specs.Tests.{isRow, rowEnd, emptyTally}
 use Rattle.rows.specs.Rows.{elementWith, rowStep, rowFrom as testedFrom, rowOf, elementOf, testedAt}

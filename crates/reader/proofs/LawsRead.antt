@@ -29,7 +29,8 @@ use Rattle.children.proofs.Laws.{rowIn-rule}
 use Rattle.rows.specs.Rows.{testedAt}
 use Rattle.rows.specs.declared.Tally.{Tally}
 use Rattle.rows.specs.declared.Tested.{Tested}
-use Rattle.named.specs.Named.{isListed, classifierNumbers, loneNumber}
+use Rattle.listed.specs.Listed.{isListed}
+use Rattle.named.specs.Named.{classifierNumbers, loneNumber}
 use Rattle.reader.specs.Take.{withRule, withClassifier, withConfiguration, withElement, ruleNumbers, isTaken}
 use Rattle.reader.specs.Read.{refusal, readLone, readRow}
 

@@ -17,7 +17,8 @@ use Rattle.table.specs.declared.Table.{Table}
 use Rattle.configurations.specs.Configurations.{configurationAt}
 use Rattle.configurations.specs.declared.Configuration.{Configuration}
 use Rattle.rows.specs.declared.Tested.{Tested}
-use Rattle.named.specs.Named.{isListed, loneNumber}
+use Rattle.listed.specs.Listed.{isListed}
+use Rattle.named.specs.Named.{loneNumber}
 use Rattle.named.specs.declared.Lone.{Lone}
 use Rattle.named.specs.declared.Lone.the-variants.{Answered, At}
 use Rattle.reader.specs.Take.{withConfiguration}

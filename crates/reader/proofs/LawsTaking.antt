@@ -23,7 +23,7 @@ use Rattle.children.proofs.Laws.{rowInside-done}
 use Rattle.rows.specs.Rows.{testedAt}
 use Rattle.rows.specs.declared.Tally.{Tally}
 use Rattle.rows.specs.declared.Tested.{Tested}
-use Rattle.named.specs.Named.{isListed}
+use Rattle.listed.specs.Listed.{isListed}
 use Rattle.reader.specs.Take.{withConfiguration, withElement, isTaken}
 use Rattle.reader.specs.Read.{refusal, readRow}
 use Rattle.reader.specs.Steps.{PlaceFor, judgedAs, noneTested, kindOf, GoesOn, readAll, TakesUp}

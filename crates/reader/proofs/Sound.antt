@@ -24,9 +24,10 @@ use Rattle.rules.specs.Rules.{ruleAt}
 use Rattle.classifiers.specs.Classifiers.{classifierAt}
 use Rattle.configurations.specs.Configurations.{configurationAt}
 use Rattle.configurations.proofs.Laws.{channels-room}
-use Rattle.named.specs.Named.{isListed, classifierNumbers}
+use Rattle.listed.specs.Listed.{isListed}
+use Rattle.named.specs.Named.{classifierNumbers}
 use Rattle.named.proofs.Lists.{map-append}
-use Rattle.named.proofs.LawsListed.{listed-append}
+use Rattle.listed.proofs.Laws.{listed-append}
 use Rattle.reader.specs.Take.{withRule, withClassifier, withConfiguration, withElement, ruleNumbers, isTaken}
 use Rattle.reader.proofs.Kept.{limited-same, pushedRule, pushedClassifier}
 

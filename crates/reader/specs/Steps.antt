@@ -25,7 +25,8 @@ use Rattle.children.specs.Rows.{rowIn, typeAt}
 use Rattle.rows.specs.Tests.{emptyTally}
 use Rattle.rows.specs.declared.Tested.{Tested}
 use Rattle.configurations.specs.Configurations.{configurationAt}
-use Rattle.named.specs.Named.{isListed, loneNumber}
+use Rattle.listed.specs.Listed.{isListed}
+use Rattle.named.specs.Named.{loneNumber}
 use Rattle.named.specs.declared.Lone.{Lone}
 use Rattle.named.specs.declared.Lone.the-variants.{Answered, At}
 use Rattle.reader.specs.Take.{withConfiguration}

@@ -21,7 +21,8 @@ use Rattle.rules.specs.Rules.{ruleAt}
 use Rattle.classifiers.specs.Classifiers.{classifierAt}
 use Rattle.configurations.specs.Configurations.{configurationAt}
 use Rattle.configurations.specs.declared.Configuration.{Configuration}
-use Rattle.named.specs.Named.{isListed, classifierNumbers}
+use Rattle.listed.specs.Listed.{isListed}
+use Rattle.named.specs.Named.{classifierNumbers}
 
 unfoldable pub withRule : Rule → Table → Table
 withRule q t =

@@ -64,7 +64,7 @@ fn place_for(list: &mut [u16; 32], count: u8, number: u16) -> usize
     requires { ⌜ length (now list) ≡ 32 ⌝ }
     ensures { λ r. ⌜ PlaceFor (now (list .entry)) count number r (now (list .exit)) ⌝ }
 {
-    if named::is_listed(list, count, number) {
+    if listed::is_listed(list, count, number) {
         return TAKEN;
     }
     let n = count as usize;

@@ -10,7 +10,8 @@ use Prim.Native.Nat.{ℕ}
 use Rattle.numbers.specs.Numbers.{numberAt}
 use Rattle.elements.specs.Elements.{headAt}
 use Rattle.types.specs.Types.{knownTypes}
-use Rattle.types.specs.Places.{childOf, under, placed, typeOf, parentIn, table, lineAt, placeIn, knownAt, typeUnder, missingIn, lacksMust}
+use Rattle.types.specs.Places.{childOf, under, placed, typeOf, parentIn, table, lineAt, placeIn, knownAt, typeUnder}
+use Rattle.musts.specs.Musts.{missingIn, lacksMust}
 use Rattle.element_tests.specs.Tests.{secondCopy, wrongLength, noChannel, badValue, isFull, ownTests}
 use Rattle.rows.specs.Tests.{isRow, rowEnd, emptyTally}
 use Rattle.rows.specs.Rows.{elementWith, rowStep, rowFrom, rowOf, elementOf, testedAt}

@@ -18,7 +18,8 @@ use lib.ListN.{length, getD, set}
 use lib.Seq.{set-out}
 use lib.Dec.{eqb}
 use Rattle.elements.specs.Elements.{headAt}
-use Rattle.types.specs.Places.{typeUnder, lacksMust}
+use Rattle.types.specs.Places.{typeUnder}
+use Rattle.musts.specs.Musts.{lacksMust}
 use Rattle.elements.proofs.Laws.{headAt-end, headAt-ends, headAt-starts, headAt-fits}
 use Rattle.elements.specs.declared.Head.{Head}
 use Rattle.elements.specs.declared.Head.the-variants.{End, Refused, Value}

@@ -11,7 +11,7 @@ use Prim.Native.Nat.{ℕ}
 use mathlib.Core.Bool.{Bool, true, false, cond}
 use mathlib.Core.List.{List}
 use lib.ListN.{replicate}
-use Rattle.types.specs.Places.{lacksMust}
+use Rattle.musts.specs.Musts.{lacksMust}
 use Rattle.types.specs.declared.Length.{Length}
 use Rattle.types.specs.declared.Length.the-variants.{Row, Bytes, NoneOr, OrMore}
 use Rattle.rows.specs.declared.Tally.{Tally}

@@ -61,7 +61,7 @@ pub fn empty_tally() -> Tally
 fn row_end(parent: usize, own: usize, counts: &[u8; 8]) -> Fault
     ensures { λ r. ⌜ r ≡ rowEnd parent own (now (counts .entry)) ⌝ }
 {
-    if types::lacks_must(parent, counts) {
+    if musts::lacks_must(parent, counts) {
         return Fault { bad: 13, off: own };
     }
     Fault { bad: 0, off: own }

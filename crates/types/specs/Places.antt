@@ -5,14 +5,12 @@
 --   placeIn from n parent t   the first of the n places from `from` with this row and type; 26 where there is none
 --   knownAt place             what the table says of the type at a place
 --   typeUnder parent t        what it says of the type t in the row `parent`; place 26 where t is not listed there
---   lacksMust parent counts   whether a must of that row has a count of 0 in its list (test 13)
---   lacksIn first i n counts  whether one of the n places from i is a must with a count of 0, a list for each place from `first`; cited by no promise
 --
 -- A row is named by the place of the type whose value it is, and the message itself by 26.
 -- Tested by: the arrays of the code, which are this table (proofs/LawsTypes.antt). Trusts: nothing.
-use Prim.Native.Nat.{ℕ, zero, suc, _+_, _-_}
-use mathlib.Core.Bool.{Bool, true, false, cond, _&&_, _||_}
-use mathlib.Core.List.{List, [], _∷_, _++_, map}
+use Prim.Native.Nat.{ℕ, zero, suc, _+_}
+use mathlib.Core.Bool.{Bool, true, false, cond, _&&_}
+use mathlib.Core.List.{List, [], _∷_, _++_}
 use lib.ListN.{getD}
 use lib.Dec.{eqb}
 use Rattle.types.specs.Types.{Entry, knownTypes}
@@ -99,15 +97,3 @@ knownAt k = knownOfLine (lineAt k)
 
 unfoldable pub typeUnder : ℕ → ℕ → Known
 typeUnder p t = knownAt (placeIn 0 26 p t)
-
-unfoldable pub missingIn : ℕ → ℕ → ℕ → List ℕ → Bool
-missingIn i zero p counts = false
-missingIn i (suc n) p counts =
-    (eqb (lineAt i .parent) p && (lineAt i .need && eqb (getD counts (lineAt i .list) 0) 0)) || missingIn (i + 1) n p counts
-
-unfoldable pub lacksMust : ℕ → List ℕ → Bool
-lacksMust p counts = missingIn 0 26 p counts
-
-unfoldable pub lacksIn : ℕ → ℕ → ℕ → List ℕ → Bool
-lacksIn first i zero counts = false
-lacksIn first i (suc n) counts = (lineAt i .need && eqb (getD counts (i - first) 0) 0) || lacksIn first (i + 1) n counts

@@ -1,16 +1,15 @@
 // The known types of document 01's table as constant arrays, a column each, and their look-up.
 //
-// Two public functions, `find_type` and `lacks_must`. They take any numbers and refuse nothing: a row
-// that is no type's, and a type that is not listed there, are answered as such.
+// One public function, `find_type`. It takes any numbers and refuses nothing: a row that is no type's, and a
+// type that is not listed there, are answered as such. The column of needs stands in the crate musts.
 //
 // Types have places, 0 to 25, the same in every array; the types of one row stand together. A row is named
 // by the place of the type whose value it is, and the message itself by 26.
 ghost use mathlib.Core.Path.{_≡_};
 ghost use mathlib.Core.Bool.{_&&_};
-ghost use Prim.Native.Nat.{_+_, _-_, _≤_, _<_};
+ghost use Prim.Native.Nat.{_-_, _≤_, _<_};
 ghost use lib.Dec.{eqb};
-ghost use lib.ListN.{getD};
-ghost use Rattle.types.specs.Places.{typeUnder, lacksMust, placeIn, lacksIn, lineAt, knownAt};
+ghost use Rattle.types.specs.Places.{typeUnder, placeIn, lineAt, knownAt};
 
 // The row that is the whole message.
 pub const TOP_LEVEL: usize = 26;
@@ -161,40 +160,6 @@ const LENGTHS: [u8; 26] = [
     2, // 51.3
     2, // 51.4
     2, // 51.5
-];
-
-const MUST: bool = true;
-
-const FREE: bool = false;
-
-// The need.
-const NEEDS: [bool; 26] = [
-    FREE, // 23
-    FREE, // 50
-    FREE, // 51
-    MUST, // 23.2
-    MUST, // 23.5
-    MUST, // 23.9
-    FREE, // 23.9.3
-    FREE, // 23.9.4
-    MUST, // 23.9.5
-    FREE, // 23.9.9
-    FREE, // 23.9.10
-    MUST, // 50.1
-    FREE, // 50.2
-    FREE, // 50.3
-    MUST, // 50.4
-    MUST, // 50.5
-    FREE, // 50.6
-    FREE, // 50.4.1
-    FREE, // 50.4.2
-    FREE, // 50.4.3
-    FREE, // 50.4.4
-    FREE, // 51.1
-    FREE, // 51.2
-    FREE, // 51.3
-    FREE, // 51.4
-    FREE, // 51.5
 ];
 
 const YES: bool = true;
@@ -448,43 +413,4 @@ pub fn find_type(parent: usize, kind: u8) -> Known
     }
     let length = length_at(place);
     known_at(place, length, found.list)
-}
-
-// Whether the type at a place, which is counted in `list`, is a must with a count of 0.
-fn lacks_at(place: usize, list: usize, counts: &[u8; 8]) -> bool
-    requires { ⌜ (place < 26) × (list < 8) ⌝ }
-    ensures { λ r. ⌜ r ≡ (lineAt place .need && eqb (getD (now (counts .entry)) list 0) 0) ⌝ }
-{
-    NEEDS[place] && counts[list] == 0
-}
-
-// Whether a must has a count of 0, of the places from `from`, the first of a row, to before `after`. Where a row has
-// musts, its types have a list each.
-fn lacks_between(from: usize, after: usize, counts: &[u8; 8]) -> bool
-    requires { ⌜ (from ≤ after) × (after ≤ from + 8) × (after ≤ 26) ⌝ }
-    ensures { λ r. ⌜ r ≡ lacksIn from from (after - from) (now (counts .entry)) ⌝ }
-{
-    let mut i = from;
-    while i < after {
-        if lacks_at(i, i - from, counts) {
-            return true;
-        }
-        i += 1;
-    }
-    false
-}
-
-// Test 13: whether a must of the row `parent` has a count of 0. `counts` has a count for each of its lists.
-pub fn lacks_must(parent: usize, counts: &[u8; 8]) -> bool
-    ensures { λ r. ⌜ r ≡ lacksMust parent (now (counts .entry)) ⌝ }
-{
-    match parent {
-        26 => lacks_between(0, 3, counts),
-        0 => lacks_between(3, 6, counts),
-        5 => lacks_between(6, 11, counts),
-        1 => lacks_between(11, 17, counts),
-        14 => lacks_between(17, 21, counts),
-        2 => lacks_between(21, 26, counts),
-        _ => false,
-    }
 }

@@ -1,24 +1,24 @@
--- Laws of pasted and sameBytes (specs/Bytes.antt).
+-- Laws of pasted (specs/Bytes.antt), of two tests and of parts of a list.
 --
 --   pasted-fits       the piece fits: where it goes    pasted-not        it does not: the target
 --   length-pasted     the target's length              part-pasted       what stands where it went
 --   take-pasted, drop-pasted, part-pasted-before, part-pasted-behind     what does not change
 --   getD-pasted-in, getD-pasted-out                    one byte of it
---   sameBytes-true, sameBytes-refl, sameBytes-snoc     true means equal lists; one byte more
+--   held-whole        what was copied to the start of an array stands there
 --   rest-all, part-all    what `&s[a..]` and `&s[a..a + n]` leave
 --   clash, both           false is not true; both of two tests
 -- Trusts: nothing.
 use Prim.Native.Nat.{ℕ, _+_, _-_, _≤_, _<_}
 use mathlib.Core.Path.{_≡_, refl, sym, ap, _∙_}
-use mathlib.Core.Bool.{Bool, true, false, cond, _&&_, and-true, and-assoc}
-use mathlib.Core.List.{List, [], _∷_, _++_, append-assoc}
+use mathlib.Core.Bool.{Bool, true, false, cond, _&&_}
+use mathlib.Core.List.{List, _++_, append-assoc}
 use mathlib.Core.Logic.{_⊎_, inl, inr}
 use native.Mathlib.Omega.{arith}
-use borrow.Author.Tests.{leb-true, eqb-true, eq-eqb, le-leb, lt-leb}
+use borrow.Author.Tests.{leb-true, le-leb, lt-leb}
 use lib.ListN.{length, getD, take, drop, length-append, length-take, length-drop, take-append-drop}
 use lib.Seq.{paste, take-length, take-all, length-take-le, take-append-le, drop-append-le, drop-append-add, drop-drop, take-at, drop-at, getD-take, getD-drop}
-use lib.Dec.{leb, eqb}
-use Rattle.wire.specs.Bytes.{pasted, sameBytes}
+use lib.Dec.{leb}
+use Rattle.wire.specs.Bytes.{pasted}
 
 -- ---- a piece put into a buffer
 
@@ -64,6 +64,9 @@ drop-pasted t at p n h = by-fit (λ l. drop n l ≡ drop n t) t at p
 pub part-pasted : (t : List ℕ) (at : ℕ) (p : List ℕ) → at + length p ≤ length t → take (length p) (drop at (pasted t at p)) ≡ p
 part-pasted t at p h = rw (pasted-fits t at p h, drop-at (take at t) (p ++ drop (at + length p) t) at (length-take-le at t (omega arith))) (take-at p (drop (at + length p) t) (length p) refl)
 
+pub held-whole : (t p : List ℕ) → length p ≤ length t → take (length p) (pasted t 0 p) ≡ p
+held-whole t p h = part-pasted t 0 p (omega arith)
+
 -- a part that lies in the first of two lists
 before-seam : (u w : List ℕ) (a l : ℕ) → a + l ≤ length u → take l (drop a (u ++ w)) ≡ take l (drop a u)
 before-seam u w a l h = rw (drop-append-le a u w (omega arith)) (take-append-le l (drop a u) w (omega (arith, length-drop a u)))
@@ -92,7 +95,7 @@ getD-pasted-out t at p k (inr h) =
     ∙ getD-drop (at + length p) t (k - (at + length p)) 0 in
     rw d at e
 
--- ---- two parts compared
+-- ---- two tests, and parts of a list
 
 pub clash : false ≡ true → ⊥
 clash e = let z : _≡_ {A = ℕ} 0 1 = cc in omega arith
@@ -100,34 +103,6 @@ clash e = let z : _≡_ {A = ℕ} 0 1 = cc in omega arith
 pub both : (a b : Bool) → (a && b) ≡ true → (a ≡ true) × (b ≡ true)
 both true b h = (refl, h)
 both false b h = absurd (clash h)
-
-pub sameBytes-true : (a b : List ℕ) → sameBytes a b ≡ true → a ≡ b
-unfolding sameBytes
-sameBytes-true [] [] h = refl
-sameBytes-true [] (y ∷ ys) h = absurd (clash h)
-sameBytes-true (x ∷ xs) [] h = absurd (clash h)
-sameBytes-true (x ∷ xs) (y ∷ ys) h =
-    let hs = both (eqb x y) (sameBytes xs ys) h in
-    rw (eqb-true x y (hs .0), sameBytes-true xs ys (hs .1)) refl
-
-pub sameBytes-refl : (a : List ℕ) → sameBytes a a ≡ true
-unfolding sameBytes
-sameBytes-refl [] = refl
-sameBytes-refl (x ∷ xs) = rw (eq-eqb x x refl, sameBytes-refl xs) refl
-
-pub sameBytes-length : (a b : List ℕ) → (length a ≡ length b → ⊥) → sameBytes a b ≡ false
-sameBytes-length a b ne = go (sameBytes a b) refl where
-  go : (t : Bool) → sameBytes a b ≡ t → sameBytes a b ≡ false
-  go true e = absurd (ne (ap length (sameBytes-true a b e)))
-  go false e = e
-
--- one byte more on both sides
-pub sameBytes-snoc : (a b : List ℕ) (x y : ℕ) → length a ≡ length b → sameBytes (a ++ (x ∷ [])) (b ++ (y ∷ [])) ≡ (sameBytes a b && eqb x y)
-unfolding sameBytes
-sameBytes-snoc [] [] x y h = and-true (eqb x y)
-sameBytes-snoc [] (v ∷ b) x y h = absurd (omega arith)
-sameBytes-snoc (u ∷ a) [] x y h = absurd (omega arith)
-sameBytes-snoc (u ∷ a) (v ∷ b) x y h = rw (sameBytes-snoc a b x y (omega arith)) (sym (and-assoc (eqb u v) (sameBytes a b) (eqb x y)))
 
 -- `&s[a..]` gives take (length s - a) (drop a s)
 pub rest-all : (l : List ℕ) (a : ℕ) → take (length l - a) (drop a l) ≡ drop a l

@@ -1,4 +1,2 @@
--- Laws: a piece put into a buffer, two parts compared, on plain lists.
--- Blocks: what is copied and compared a block at a time.
+-- Laws: a piece put into a buffer, two tests, parts of a list, on plain lists.
 pub mod Laws
-pub mod Blocks

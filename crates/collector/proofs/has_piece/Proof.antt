@@ -1,4 +1,4 @@
--- `collector::has_piece` gives `sameBytes` of the slot's piece and the body's, by what `wire::same_bytes` ensures.
+-- `collector::has_piece` gives `sameBytes` of the slot's piece and the body's, by what `compare::same_bytes` ensures.
 -- Trusts: nothing.
 use borrow.Author.Needs.{needs}
 use mathlib.Core.Path.{ap, _∙_}
@@ -6,7 +6,7 @@ use mathlib.Core.List.{List}
 use Prim.Native.Nat.{ℕ, _*_, _-_}
 use denote.Ref.{now}
 use lib.ListN.{length, take, drop}
-use Rattle.wire.specs.Bytes.{sameBytes}
+use Rattle.compare.specs.Compare.{sameBytes}
 use Rattle.wire.proofs.Laws.{rest-all, part-all}
 use Rattle.collector.proofs.has_piece.Statement.{statement}
 use Rattle.collector.proofs.has_piece.Tie as tie

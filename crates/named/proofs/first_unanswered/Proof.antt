@@ -1,17 +1,16 @@
 -- `named::first_unanswered` gives loneOf. Each of the two loops keeps that its search from where it stands answers for the whole.
 -- Trusts: nothing.
 use borrow.Author.Needs.{needs}
-use Prim.Native.Nat.{ℕ, _-_, _+_, _≤_}
-use mathlib.Core.Path.{_≡_, refl, sym, ap, _∙_}
-use native.Mathlib.Omega.{arith}
+use Prim.Native.Nat.{_-_, _+_, _≤_}
+use mathlib.Core.Path.{_≡_, refl, _∙_}
 use borrow.Author.Tests.{not-true, not-false}
 use lib.ListN.{length, take, drop}
 use Rattle.table.specs.Table.{rulesOf, numbersOf}
 use Rattle.table.proofs.Laws.{length-mapped}
+use Rattle.listed.proofs.Laws.{limited-le, isAmong-front}
 use Rattle.named.specs.Named.{loneIn, loneOf}
 use Rattle.named.specs.declared.Found.the-variants.{Nothing}
-use Rattle.named.proofs.LawsListed.{isAmong-front}
-use Rattle.named.proofs.LawsLone.{limited-le, lone-rule, lone-end, lone-answered, lone-number, lone-done}
+use Rattle.named.proofs.LawsLone.{lone-rule, lone-end, lone-answered, lone-number, lone-done}
 use Rattle.named.proofs.first_unanswered.Statement.{statement}
 use Rattle.named.proofs.first_unanswered.Tie as tie
 

@@ -1,15 +1,16 @@
 -- `named::gather`: the loop keeps that the places passed hold the numbers of the classifiers passed. What is left falls.
 -- Trusts: nothing.
 use borrow.Author.Needs.{needs}
-use Prim.Native.Nat.{ℕ, _-_, _+_, _≤_}
-use mathlib.Core.Path.{_≡_, refl, sym, ap, _∙_}
+use Prim.Native.Nat.{_-_, _≤_}
+use mathlib.Core.Path.{_≡_, refl, _∙_}
 use mathlib.Core.List.{map}
 use native.Mathlib.Omega.{arith}
 use lib.ListN.{length, take, length-set}
 use Rattle.table.specs.declared.Classifier.{Classifier}
 use Rattle.table.proofs.Laws.{length-mapped}
+use Rattle.listed.proofs.Laws.{limited-le}
 use Rattle.named.proofs.Lists.{front-gathered}
-use Rattle.named.proofs.LawsLone.{limited-le, gathered-all}
+use Rattle.named.proofs.LawsLone.{gathered-all}
 use Rattle.named.proofs.gather.Statement.{statement}
 use Rattle.named.proofs.gather.Tie as tie
 

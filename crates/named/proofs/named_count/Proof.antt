@@ -2,7 +2,7 @@
 -- Trusts: nothing.
 use borrow.Author.Needs.{needs}
 use Rattle.table.proofs.Laws.{length-mapped}
-use Rattle.named.proofs.LawsLone.{limited-le}
+use Rattle.listed.proofs.Laws.{limited-le}
 use Rattle.named.proofs.named_count.Statement.{statement}
 use Rattle.named.proofs.named_count.Tie as tie
 

@@ -2,7 +2,7 @@
 -- Trusts: nothing.
 use borrow.Author.Needs.{needs}
 use mathlib.Core.Path.{_∙_}
-use Rattle.named.proofs.LawsListed.{isAmong-front}
+use Rattle.listed.proofs.Laws.{isAmong-front}
 use Rattle.reader.proofs.LawsSteps.{place-taken, place-full, place-at}
 use Rattle.reader.proofs.place_for.Statement.{statement}
 use Rattle.reader.proofs.place_for.Tie as tie

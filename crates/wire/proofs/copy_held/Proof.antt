@@ -8,7 +8,7 @@ use borrow.Author.Needs.{needs}
 use denote.Ref.{now}
 use lib.ListN.{length, take, replicate, length-replicate}
 use Rattle.wire.specs.Bytes.{pasted}
-use Rattle.wire.proofs.Blocks.{held-whole}
+use Rattle.wire.proofs.Laws.{held-whole}
 use Rattle.wire.proofs.copy_held.Statement.{statement}
 use Rattle.wire.proofs.copy_held.Tie as tie
 

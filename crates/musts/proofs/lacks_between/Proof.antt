@@ -1,14 +1,14 @@
--- `types::lacks_between` says whether a must is missing. The loop keeps that from `i` on one is missing where one is from `from` on; what is
+-- `musts::lacks_between` says whether a must is missing. The loop keeps that from `i` on one is missing where one is from `from` on; what is
 -- left of the places falls.
 -- Trusts: nothing.
 use borrow.Author.Needs.{needs}
 use Prim.Native.Nat.{_≤_, _-_}
 use mathlib.Core.Path.{_≡_, sym, _∙_}
 use native.Mathlib.Omega.{arith}
-use Rattle.types.specs.Places.{lacksIn}
-use Rattle.types.proofs.LawsPlaces.{lacksIn-here, lacksIn-other, lacksIn-none}
-use Rattle.types.proofs.lacks_between.Statement.{statement}
-use Rattle.types.proofs.lacks_between.Tie as tie
+use Rattle.musts.specs.Musts.{lacksIn}
+use Rattle.musts.proofs.Laws.{lacksIn-here, lacksIn-other, lacksIn-none}
+use Rattle.musts.proofs.lacks_between.Statement.{statement}
+use Rattle.musts.proofs.lacks_between.Tie as tie
 
 abbrev Inv-loop : tie.InvT-loop
 Inv-loop from after counts i₀ i = (i ≤ after) × (from ≤ i) × (lacksIn from i (after - i) counts ≡ lacksIn from from (after - from) counts)

@@ -1,11 +1,11 @@
--- `types::lacks_at` tests the need, then the count. That the array is that column of the table is computed.
+-- `musts::lacks_at` tests the need, then the count. That the array is that column of the table is computed.
 -- Trusts: nothing.
 use borrow.Author.Needs.{needs}
 use mathlib.Core.Bool.{false}
 use Rattle.types.proofs.LawsTypes.{lines, column-at}
-use Rattle.types.proofs.LawsPlaces.{lacks-count, lacks-free}
-use Rattle.types.proofs.lacks_at.Statement.{statement}
-use Rattle.types.proofs.lacks_at.Tie as tie
+use Rattle.musts.proofs.Laws.{lacks-count, lacks-free}
+use Rattle.musts.proofs.lacks_at.Statement.{statement}
+use Rattle.musts.proofs.lacks_at.Tie as tie
 
 returns : tie.Need-returns
 unfolding lines

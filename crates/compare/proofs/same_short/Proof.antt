@@ -1,4 +1,4 @@
--- `wire::same_short` gives `sameBytes`. The loop's invariant: `same` says whether the first `i` bytes of both are the same.
+-- `compare::same_short` gives `sameBytes`. The loop's invariant: `same` says whether the first `i` bytes of both are the same.
 -- Trusts: nothing.
 use mathlib.Core.Path.{_≡_, refl, sym, _∙_}
 use mathlib.Core.Bool.{_&&_, and-false, and-true}
@@ -12,10 +12,10 @@ use denote.Ref.{now}
 use lib.ListN.{length, getD, take}
 use lib.Seq.{take-suc, take-length, length-take-le}
 use lib.Dec.{eqb}
-use Rattle.wire.specs.Bytes.{sameBytes}
-use Rattle.wire.proofs.Laws.{sameBytes-snoc}
-use Rattle.wire.proofs.same_short.Statement.{statement}
-use Rattle.wire.proofs.same_short.Tie as tie
+use Rattle.compare.specs.Compare.{sameBytes}
+use Rattle.compare.proofs.Laws.{sameBytes-snoc}
+use Rattle.compare.proofs.same_short.Statement.{statement}
+use Rattle.compare.proofs.same_short.Tie as tie
 
 abbrev Inv-loop : tie.InvT-loop
 Inv-loop a b same₀ i₀ same i = (i ≤ length a) × (length a ≡ length b) × (same ≡ sameBytes (take i a) (take i b))

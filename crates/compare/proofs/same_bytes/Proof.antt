@@ -1,12 +1,12 @@
--- `wire::same_bytes` gives `sameBytes`: other lengths are other bytes.
+-- `compare::same_bytes` gives `sameBytes`: other lengths are other bytes.
 -- Trusts: nothing.
 use mathlib.Core.Path.{sym}
 use native.Mathlib.Omega.{arith}
 use borrow.Author.Needs.{needs}
 use denote.Ref.{now}
-use Rattle.wire.proofs.Laws.{sameBytes-length}
-use Rattle.wire.proofs.same_bytes.Statement.{statement}
-use Rattle.wire.proofs.same_bytes.Tie as tie
+use Rattle.compare.proofs.Laws.{sameBytes-length}
+use Rattle.compare.proofs.same_bytes.Statement.{statement}
+use Rattle.compare.proofs.same_bytes.Tie as tie
 
 -- other lengths: false
 returns : tie.Need-returns

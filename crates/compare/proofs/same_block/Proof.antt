@@ -1,4 +1,4 @@
--- `wire::same_block` gives `sameBytes` of the two blocks. The loop's invariant: `apart` is 0 exactly where the first `k` bytes of both are the
+-- `compare::same_block` gives `sameBytes` of the two blocks. The loop's invariant: `apart` is 0 exactly where the first `k` bytes of both are the
 -- same; what falls is 256 - k.
 -- Trusts: nothing.
 use mathlib.Core.Path.{_≡_, refl, sym, ap, _∙_}
@@ -9,10 +9,10 @@ use native.Mathlib.Numerals.{add-one}
 use denote.Ref.{now}
 use lib.ListN.{getD, take, drop}
 use lib.Dec.{eqb}
-use Rattle.wire.specs.Bytes.{sameBytes}
-use Rattle.wire.proofs.Blocks.{gathered, block-more}
-use Rattle.wire.proofs.same_block.Statement.{statement}
-use Rattle.wire.proofs.same_block.Tie as tie
+use Rattle.compare.specs.Compare.{sameBytes}
+use Rattle.compare.proofs.Blocks.{gathered, block-more}
+use Rattle.compare.proofs.same_block.Statement.{statement}
+use Rattle.compare.proofs.same_block.Tie as tie
 
 abbrev Inv-loop : tie.InvT-loop
 Inv-loop a b at apart₀ k₀ apart k = (k ≤ 256) × (eqb apart 0 ≡ sameBytes (take k (drop at a)) (take k (drop at b)))

@@ -1,6 +1,5 @@
--- Laws of what is copied and compared a block at a time (specs/Bytes.antt).
+-- Laws of what is compared a block at a time (specs/Compare.antt).
 --
---   held-whole      what was copied to the start of an array stands there
 --   gathered        the bits in which bytes differ, gathered: none exactly where all bytes were the same
 --   block-more      one byte more of a block             block-on      one block more is the same
 --   block-apart     a block differs: so do the lists     block-last    the last block, from the end, decides
@@ -15,11 +14,9 @@ use lib.ListN.{length, getD, take, drop, length-drop}
 use lib.Seq.{take-suc, take-all, take-take, take-add, length-take-le, getD-drop}
 use lib.Dec.{eqb}
 use lib.Bits.{bitOr, bitXor, or-add-and, xor-add-and, and-le-l, and-le-r, xor-self}
-use Rattle.wire.specs.Bytes.{pasted, sameBytes}
-use Rattle.wire.proofs.Laws.{clash, part-pasted, sameBytes-true, sameBytes-refl, sameBytes-snoc}
-
-pub held-whole : (t p : List ℕ) → length p ≤ length t → take (length p) (pasted t 0 p) ≡ p
-held-whole t p h = part-pasted t 0 p (omega arith)
+use Rattle.wire.proofs.Laws.{clash}
+use Rattle.compare.specs.Compare.{sameBytes}
+use Rattle.compare.proofs.Laws.{sameBytes-true, sameBytes-refl, sameBytes-snoc}
 
 -- ---- the bits in which bytes differ
 

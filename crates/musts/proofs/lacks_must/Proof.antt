@@ -1,13 +1,14 @@
--- `types::lacks_must` gives `lacksMust`. In each arm the row's own places are looked through; by the table no other place is in that
+-- `musts::lacks_must` gives `lacksMust`. In each arm the row's own places are looked through; by the table no other place is in that
 -- row, and an arm's answer is computed. A number that names no row has no place at all.
 -- Trusts: nothing.
 use borrow.Author.Needs.{needs}
-use mathlib.Core.Path.{_≡_, refl, sym, _∙_}
+use mathlib.Core.Path.{sym, _∙_}
 use borrow.Author.Tests.{ne-eqb}
-use Rattle.types.specs.Places.{lacksMust, missingIn, lacksIn, lineAt}
+use Rattle.types.specs.Places.{lineAt}
+use Rattle.musts.specs.Musts.{lacksMust, missingIn, lacksIn}
 use Rattle.types.proofs.LawsTypes.{lines, table-lines}
-use Rattle.types.proofs.lacks_must.Statement.{statement}
-use Rattle.types.proofs.lacks_must.Tie as tie
+use Rattle.musts.proofs.lacks_must.Statement.{statement}
+use Rattle.musts.proofs.lacks_must.Tie as tie
 
 returns : tie.Need-returns
 unfolding lacksMust missingIn lacksIn lineAt lines

@@ -1,15 +1,14 @@
--- `named::is_listed` gives isAmong. The loop keeps that its mark says whether the number is among the places passed; what is left falls.
+-- `listed::is_listed` gives isAmong. The loop keeps that its mark says whether the number is among the places passed; what is left falls.
 -- Trusts: nothing.
 use borrow.Author.Needs.{needs}
-use Prim.Native.Nat.{ℕ, _-_, _+_, _≤_}
-use mathlib.Core.Path.{_≡_, refl, sym, ap, _∙_}
+use Prim.Native.Nat.{ℕ, _-_, _≤_}
+use mathlib.Core.Path.{_≡_, refl, ap, _∙_}
 use native.Mathlib.Omega.{arith}
 use mathlib.Core.Logic.{⊎-elim}
-use Rattle.named.specs.Named.{isAmong}
-use Rattle.named.proofs.LawsListed.{among-hit, among-miss}
-use Rattle.named.proofs.LawsLone.{limited-le}
-use Rattle.named.proofs.is_listed.Statement.{statement}
-use Rattle.named.proofs.is_listed.Tie as tie
+use Rattle.listed.specs.Listed.{isAmong}
+use Rattle.listed.proofs.Laws.{limited-le, among-hit, among-miss}
+use Rattle.listed.proofs.is_listed.Statement.{statement}
+use Rattle.listed.proofs.is_listed.Tie as tie
 
 abbrev Inv-loop : tie.InvT-loop
 Inv-loop list count number end listed₀ i₀ listed i = (i ≤ end) × (end ≤ 32) × (listed ≡ isAmong number i list)

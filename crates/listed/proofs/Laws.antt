@@ -1,23 +1,35 @@
--- Laws of isListed and isAmong (specs/Named.antt).
+-- Laws of isListed and isAmong (specs/Listed.antt), and of a list of which the first are meant.
 --
+--   limited-le                     a count that is read as its limit at most
+--   front-all                      a count above the length means all
 --   listed-append                  a number in a joined list
 --   among-hit, among-miss          one more place of a list is looked at
 --   isAmong-listed, isAmong-front  the two say the same of the first places of a list that has them
 -- Trusts: nothing.
 use Prim.Native.Nat.{ℕ, zero, suc, _+_, _≤_}
-use mathlib.Core.Path.{_≡_, refl, ap, _∙_}
-use mathlib.Core.Bool.{Bool, true, false, _||_}
+use mathlib.Core.Path.{_≡_, refl, sym, ap, _∙_}
+use mathlib.Core.Bool.{Bool, true, false, cond, _||_}
 use mathlib.Core.List.{List, [], _∷_, _++_}
 use native.Mathlib.Omega.{arith}
 use native.Mathlib.Numerals.{add-one}
-use borrow.Author.Tests.{eq-eqb, ne-eqb}
+use borrow.Author.Tests.{eq-eqb, ne-eqb, ltb-true}
 use lib.ListN.{length, take, getD}
-use lib.Seq.{take-suc}
-use lib.Dec.{eqb}
+use lib.Seq.{take-suc, take-all}
+use lib.Dec.{eqb, ltb}
 use Rattle.table.specs.Table.{limitedTo}
 use Rattle.table.proofs.Laws.{limitedTo-le}
-use Rattle.named.specs.Named.{isListed, isAmong}
-use Rattle.named.proofs.Lists.{front-all}
+use Rattle.listed.specs.Listed.{isListed, isAmong}
+
+pub limited-le : (limit n : ℕ) {m : ℕ} → m ≡ limitedTo limit n → m ≤ limit
+limited-le limit n e = rw e (limitedTo-le limit n)
+
+-- the first n of a list that has no more than the limit
+pub front-all : {A : Type 0} (l : List A) (limit n : ℕ) → length l ≡ limit → take (limitedTo limit n) l ≡ take n l
+front-all l limit n e = on (ltb limit n) refl
+  where
+    on : (b : Bool) → ltb limit n ≡ b → take (cond b limit n) l ≡ take n l
+    on true y = let h = ltb-true limit n y in take-all limit l (omega arith) ∙ sym (take-all n l (omega arith))
+    on false y = refl
 
 pub listed-append : (n : ℕ) (s t : List ℕ) → isListed n (s ++ t) ≡ (isListed n s || isListed n t)
 listed-append n [] t = refl

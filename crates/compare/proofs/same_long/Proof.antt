@@ -1,4 +1,4 @@
--- `wire::same_long` gives `sameBytes`. The loop's invariant: the first `i` bytes of both are the same; what falls is the length less `i`.
+-- `compare::same_long` gives `sameBytes`. The loop's invariant: the first `i` bytes of both are the same; what falls is the length less `i`.
 -- Trusts: nothing.
 use mathlib.Core.Path.{_≡_, refl, sym, _∙_}
 use Prim.Native.Nat.{_-_, _≤_}
@@ -7,9 +7,9 @@ use borrow.Author.Needs.{needs}
 use borrow.Author.Tests.{not-true, not-false}
 use denote.Ref.{now}
 use lib.ListN.{length, take}
-use Rattle.wire.proofs.Blocks.{block-on, block-apart, block-last}
-use Rattle.wire.proofs.same_long.Statement.{statement}
-use Rattle.wire.proofs.same_long.Tie as tie
+use Rattle.compare.proofs.Blocks.{block-on, block-apart, block-last}
+use Rattle.compare.proofs.same_long.Statement.{statement}
+use Rattle.compare.proofs.same_long.Tie as tie
 
 abbrev Inv-loop : tie.InvT-loop
 Inv-loop a b last i₀ i = (i ≤ length a) × (take i a ≡ take i b)

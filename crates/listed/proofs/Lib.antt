@@ -1,0 +1,2 @@
+-- Laws: a number looked up in a list, of which the first are meant.
+pub mod Laws

@@ -1,0 +1,2 @@
+-- Listed: a number looked up in a list.
+pub mod Listed

@@ -1,0 +1,2 @@
+-- Laws: of the musts, place by place.
+pub mod Laws
