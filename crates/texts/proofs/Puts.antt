@@ -1,7 +1,7 @@
 -- Laws of `put` (specs/Put.antt).
 --
 --   put-past     no room: nothing is written           put-room     what was written, where it has room
---   put→wrote    what `put` says of a text that has room
+--   put→wrote    what `put` says of a text that has room     put-first, put-last     of the first and the last of two
 --   room-left    the test of the room, made without a sum
 --   room-past, room-fits     what the test says of a word and digits behind it
 -- Trusts: nothing.
@@ -16,6 +16,7 @@ use borrow.Author.Tests.{leb-true, leb-false, le-leb, lt-leb, not-true, not-fals
 use Rattle.wire.specs.Bytes.{pasted}
 use Rattle.texts.specs.Put.{Put, put}
 use Rattle.texts.specs.Writing.{Fits, Wrote}
+use Rattle.texts.proofs.Written.{fits-first, fits-rest, wrote-then}
 
 pub put-past : (text out : List ℕ) (at : ℕ) → leb (at + length text) (length out) ≡ false → record { next = at; out = out } ≡ put text out at
 unfolding put
@@ -30,6 +31,12 @@ unfolding put
 put→wrote {text} {out} {new} {at} {next} h e =
     let f : _≡_ {A = Put} (record { next = next; out = new }) (record { next = at + length text; out = pasted out at text }) = rw (le-leb (at + length text) (length out) (h .room)) at e in
     record { bytes = ap (λ (p : Put). p .out) f; place = ap (λ (p : Put). p .next) f }
+
+pub put-first : {s out new : List ℕ} {at next : ℕ} (t : List ℕ) → Fits out at (s ++ t) → record { next = next; out = new } ≡ put s out at → Wrote out at s new next
+put-first t h e = put→wrote (fits-first t h) e
+
+pub put-last : {s out new last : List ℕ} {at next end : ℕ} (t : List ℕ) → Fits out at (s ++ t) → Wrote out at s new next → record { next = end; out = last } ≡ put t new next → Wrote out at (s ++ t) last end
+put-last t h w e = wrote-then h w (put→wrote (fits-rest h w) e)
 
 -- a word and so many digits behind it: the test of the room, made without a sum
 pub room-left : (bytes at word k : ℕ) → at ≤ bytes → word ≤ bytes - at → leb k (bytes - at - word) ≡ leb (at + (word + k)) bytes

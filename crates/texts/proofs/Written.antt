@@ -4,7 +4,7 @@
 --   wrote-none    nothing written                                 wrote-byte              one byte stored
 --   wrote-then    two texts written one behind the other are their join
 -- Trusts: nothing.
-use Prim.Native.Nat.{ℕ, suc, _+_, _≤_, _<_}
+use Prim.Native.Nat.{ℕ, _+_, _≤_}
 use mathlib.Core.Path.{_≡_, refl, sym, ap, subst, _∙_}
 use mathlib.Core.Bool.{Bool, true, false}
 use mathlib.Core.List.{List, [], _∷_, _++_, append-assoc}
