@@ -347,12 +347,12 @@ struct dsg_listed {
 /* The text of a table that came under a change count: the lines that dcdlist writes.
  * Lent: the table, a buffer of DSG_LISTING_BYTES or more. Written: the text, at the buffer's start; no byte behind it.
  * Refused (number not 0): the buffer holds what it held.
- * Definition: listing/specs/Listing listing, listing/specs/Text tableText; dsg_tables/specs/Tables listAfter. */
+ * Definition: notices/specs/Listing listing, listing/specs/Text tableText; dsg_tables/specs/Tables listAfter. */
 struct dsg_listed dsg_list_table(const struct dsg_table *table, uint8_t count, uint8_t *out, size_t out_length);
 
 /* What dcdlist writes for one body, taken with nothing collected: a table, a refusal, or how many pieces it waits for.
  * Lent, written, refused: as dsg_list_table. It takes the most stack: it has two buffers of its own.
- * Definition: listing/specs/Listing listing, bodies/specs/Body bodyText; dsg_tables/specs/Tables bodyAfter. */
+ * Definition: notices/specs/Listing listing, bodies/specs/Body bodyText; dsg_tables/specs/Tables bodyAfter. */
 struct dsg_listed dsg_list_body(const uint8_t *body, size_t body_length, uint8_t *out, size_t out_length);
 
 /* ---- layout ------------------------------------------------------------------------------------------------- */

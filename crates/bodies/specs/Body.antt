@@ -16,7 +16,8 @@ use Rattle.table.specs.declared.Table.{Table}
 use Rattle.table.specs.Table.{emptyTable}
 use Rattle.collection.specs.Record.{emptyCollection}
 use Rattle.receiver.specs.Receive.{Told, bodyRefused, again, waiting, accepted, messageRefused, Had, receiveStep}
-use Rattle.listing.specs.Text.{tableText, refusalText, waitingText}
+use Rattle.notices.specs.Text.{refusalText, waitingText}
+use Rattle.listing.specs.Text.{tableText}
 
 unfoldable pub zeros : List ℕ
 zeros = replicate 24000 0

@@ -1,13 +1,13 @@
 // The listing of one body by itself: what `dcdlist` writes.
 //
-// One public function, `list_body`. It takes any body and any buffer; a buffer under `listing::LISTING_BYTES` is refused and
+// One public function, `list_body`. It takes any body and any buffer; a buffer under `notices::LISTING_BYTES` is refused and
 // stays as it was. It needs some 141,000 bytes of stack: two buffers of 24,000, and a table that goes by value from call to call.
 ghost use mathlib.Core.Path.{_≡_};
 ghost use lib.ListN.{getD};
 ghost use Rattle.receiver.specs.Receive.{told};
-ghost use Rattle.listing.specs.Listing.{written, listing};
+ghost use Rattle.notices.specs.Listing.{written, listing};
 ghost use Rattle.bodies.specs.Body.{zeros, received, reportText, bodyText};
-use listing::Listed;
+use notices::Listed;
 use receiver::Received;
 use receiver::Report;
 use table::Table;
@@ -45,11 +45,11 @@ fn list_report(report: Report, count: u8, table: Table, out: &mut [u8]) -> Liste
     ensures { λ r. ⌜ record { answer = written r; out = now (out .exit) } ≡ listing (reportText (told report) count table) (now (out .entry)) ⌝ }
 {
     match report {
-        Report::BodyRefused(number) => listing::list_refusal(number, 0, out),
-        Report::Repeat => listing::list_waiting(0, out),
-        Report::Waiting(empty) => listing::list_waiting(empty, out),
+        Report::BodyRefused(number) => notices::list_refusal(number, 0, out),
+        Report::Repeat => notices::list_waiting(0, out),
+        Report::Waiting(empty) => notices::list_waiting(empty, out),
         Report::Accepted => listing::list_table(count, table, out),
-        Report::MessageRefused(number, offset) => listing::list_refusal(number, offset, out),
+        Report::MessageRefused(number, offset) => notices::list_refusal(number, offset, out),
     }
 }
 

@@ -5,8 +5,8 @@
 // program ends.
 use libc::STDIN_FILENO;
 use libc::STDOUT_FILENO;
-use listing::LISTING_BYTES;
-use listing::Listed;
+use notices::LISTING_BYTES;
+use notices::Listed;
 ghost use Prim.Native.Nat.{_≤_};
 ghost use lib.ListN.{length};
 ghost use Rattle.dcdlist.specs.Input.{bytesRead};

@@ -39,8 +39,8 @@ use Rattle.rows.proofs.Laws.{testedAt-placed}
 use Rattle.reader.specs.Read.{readTable}
 use Rattle.reader.proofs.Laws as laws
 use Rattle.reader.specs.declared.Verdict.the-variants as reading
-use Rattle.listing.specs.Listing as listed
-use Rattle.listing.specs.Listing.{Listing, listing}
+use Rattle.notices.specs.Listing as listed
+use Rattle.notices.specs.Listing.{Listing, listing}
 
 -- ---- collecting pieces
 

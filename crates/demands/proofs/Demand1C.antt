@@ -28,8 +28,8 @@ use Rattle.reader.specs.declared.Verdict.{Verdict}
 use Rattle.reader.specs.declared.Verdict.the-variants as reading
 use Rattle.receiver.specs.Receive as told
 use Rattle.receiver.specs.Receive.{Told, Had, receiveStep}
-use Rattle.listing.specs.Listing as listed
-use Rattle.listing.specs.Listing.{Written, listing}
+use Rattle.notices.specs.Listing as listed
+use Rattle.notices.specs.Listing.{Written, listing}
 use Rattle.choice.specs.Choose as choose
 use Rattle.choice.specs.declared.Choice.{Choice}
 use Rattle.choice.specs.declared.Choice.the-variants as choice

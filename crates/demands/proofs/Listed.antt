@@ -17,7 +17,8 @@ use Rattle.reader.specs.Read.{readTable}
 use Rattle.reader.specs.declared.Reading.{Reading}
 use Rattle.reader.proofs.Bench.{tableM}
 use Rattle.receiver.specs.Receive.{reported, taken}
-use Rattle.listing.specs.Text.{ascii, digit, decimal, decimalIn, hexadecimal, field, address, sizesLine, ruleLine, classifierLine, channelLine, timersLine, linesOf, tableText}
+use Rattle.texts.specs.Text.{ascii, digit, decimal, decimalIn, hexadecimal, field, address}
+use Rattle.listing.specs.Text.{sizesLine, ruleLine, classifierLine, channelLine, timersLine, linesOf, tableText}
 use Rattle.bodies.specs.Body.{reportText, bodyText}
 use Rattle.bodies.proofs.Laws.{bodyText-reply}
 use Rattle.demands.proofs.Starred.{read-M}

@@ -6,7 +6,8 @@ use contract.Lifetimes.{Lfts}
 use denote.Ref.{now}
 use Rattle.demands.proofs.Contract.{One, only, answer}
 use Rattle.demands.proofs.Parts as parts
-use Rattle.listing.specs.Listing.{Listing, written}
+use Rattle.texts.specs.Put.{Put}
+use Rattle.notices.specs.Listing.{Listing, written}
 use Rattle.numbers.proofs.number1.Reads as number1
 use Rattle.numbers.proofs.number2.Reads as number2
 use Rattle.numbers.proofs.number4.Reads as number4
@@ -39,9 +40,11 @@ use Rattle.matching.proofs.names_number.Reads as names_number
 use Rattle.matching.proofs.entry_of.Reads as entry_of
 use Rattle.matching.proofs.fits_packet.Reads as fits_packet
 use Rattle.bodies.proofs.list_body.Reads as list_body
+use Rattle.texts.proofs.put_field.Reads as put_field
+use Rattle.texts.proofs.put_address.Reads as put_address
+use Rattle.notices.proofs.list_refusal.Reads as list_refusal
+use Rattle.notices.proofs.list_waiting.Reads as list_waiting
 use Rattle.listing.proofs.list_table.Reads as list_table
-use Rattle.listing.proofs.list_refusal.Reads as list_refusal
-use Rattle.listing.proofs.list_waiting.Reads as list_waiting
 
 -- ---- numbers
 
@@ -166,16 +169,26 @@ entry_of-one κs = only (parts.entry_of-gives κs)
 pub fits_packet-one : (κs : Lfts 1) → One answer (fits_packet.Post κs)
 fits_packet-one κs = only (parts.fits_packet-gives κs)
 
--- ---- listing
+-- ---- texts
 
-pub list_table-one : (κs : Lfts 1) → One {L = Listing} (λ x s. record { answer = written x; out = now (s .1 .1 .0) }) (list_table.Post κs)
-list_table-one κs = only (parts.list_table-gives κs)
+pub put_field-one : (κs : Lfts 2) → One {L = Put} (λ x s. record { next = x; out = now (s .1 .1 .0) }) (put_field.Post κs)
+put_field-one κs = only (parts.put_field-gives κs)
+
+pub put_address-one : (κs : Lfts 2) → One {L = Put} (λ x s. record { next = x; out = now (s .1 .1 .0) }) (put_address.Post κs)
+put_address-one κs = only (parts.put_address-gives κs)
+
+-- ---- notices
 
 pub list_refusal-one : (κs : Lfts 1) → One {L = Listing} (λ x s. record { answer = written x; out = now (s .1 .1 .0) }) (list_refusal.Post κs)
 list_refusal-one κs = only (parts.list_refusal-gives κs)
 
 pub list_waiting-one : (κs : Lfts 1) → One {L = Listing} (λ x s. record { answer = written x; out = now (s .1 .0) }) (list_waiting.Post κs)
 list_waiting-one κs = only (parts.list_waiting-gives κs)
+
+-- ---- listing
+
+pub list_table-one : (κs : Lfts 1) → One {L = Listing} (λ x s. record { answer = written x; out = now (s .1 .1 .0) }) (list_table.Post κs)
+list_table-one κs = only (parts.list_table-gives κs)
 
 -- ---- bodies
 

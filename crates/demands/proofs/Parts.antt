@@ -1,4 +1,4 @@
--- Parts: what the public functions of the lower crates give (numbers, wire, compare, table, types, musts, elements, element_tests, rows, clients, rules, classifiers, configurations, listed, named, collection, packets, matching, listing, bodies): each its definition, for every input.
+-- Parts: what the public functions of the lower crates give (numbers, wire, compare, table, types, musts, elements, element_tests, rows, clients, rules, classifiers, configurations, listed, named, collection, packets, matching, texts, notices, listing, bodies): each its definition, for every input.
 --
 -- It says nothing of what the definitions mean; docs/MAP.md says where they stand. `met` of each function, in its own crate, says that the
 -- compiled function meets the contract cited here.
@@ -61,13 +61,18 @@ use Rattle.matching.specs.Entry.{entryOf, fitsPacket}
 use Rattle.matching.proofs.names_number.Reads as names_number
 use Rattle.matching.proofs.entry_of.Reads as entry_of
 use Rattle.matching.proofs.fits_packet.Reads as fits_packet
-use Rattle.listing.specs.Text.{tableText, refusalText, waitingText}
-use Rattle.listing.specs.Listing.{Listing, written, listing}
+use Rattle.texts.specs.Text.{field, address}
+use Rattle.texts.specs.Put.{Put, put}
+use Rattle.texts.proofs.put_field.Reads as put_field
+use Rattle.texts.proofs.put_address.Reads as put_address
+use Rattle.notices.specs.Text.{refusalText, waitingText}
+use Rattle.listing.specs.Text.{tableText}
+use Rattle.notices.specs.Listing.{Listing, written, listing}
 use Rattle.bodies.specs.Body.{bodyText}
 use Rattle.bodies.proofs.list_body.Reads as list_body
 use Rattle.listing.proofs.list_table.Reads as list_table
-use Rattle.listing.proofs.list_refusal.Reads as list_refusal
-use Rattle.listing.proofs.list_waiting.Reads as list_waiting
+use Rattle.notices.proofs.list_refusal.Reads as list_refusal
+use Rattle.notices.proofs.list_waiting.Reads as list_waiting
 
 -- ---- numbers
 
@@ -192,16 +197,24 @@ entry_of-gives κs a x s h = h
 pub fits_packet-gives : (κs : Lfts 1) → Gives answer (fits_packet.Post κs) (λ a. fitsPacket (now (a .1 .1 .0)) (a .1 .0) (a .0))
 fits_packet-gives κs a x s h = h
 
--- ---- listing: the answer and the lent buffer
+-- ---- texts: the place behind the text and the lent buffer
 
-pub list_table-gives : (κs : Lfts 1) → Gives {L = Listing} (λ x s. record { answer = written x; out = now (s .1 .1 .0) }) (list_table.Post κs) (λ a. listing (tableText (a .0) (a .1 .0)) (now (a .1 .1 .0)))
-list_table-gives κs a x s h = h
+pub put_field-gives : (κs : Lfts 2) → Gives {L = Put} (λ x s. record { next = x; out = now (s .1 .1 .0) }) (put_field.Post κs) (λ a. (put) (field (now (a .0)) (a .1 .0)) (now (a .1 .1 .0)) (a .1 .1 .1 .0))
+put_field-gives κs a x s h = h
+
+pub put_address-gives : (κs : Lfts 2) → Gives {L = Put} (λ x s. record { next = x; out = now (s .1 .1 .0) }) (put_address.Post κs) (λ a. (put) (address (now (a .0)) (a .1 .0)) (now (a .1 .1 .0)) (a .1 .1 .1 .0))
+put_address-gives κs a x s h = h
+
+-- ---- notices, listing and bodies: the answer and the lent buffer
 
 pub list_refusal-gives : (κs : Lfts 1) → Gives {L = Listing} (λ x s. record { answer = written x; out = now (s .1 .1 .0) }) (list_refusal.Post κs) (λ a. listing (refusalText (a .0) (a .1 .0)) (now (a .1 .1 .0)))
 list_refusal-gives κs a x s h = h
 
 pub list_waiting-gives : (κs : Lfts 1) → Gives {L = Listing} (λ x s. record { answer = written x; out = now (s .1 .0) }) (list_waiting.Post κs) (λ a. listing (waitingText (a .0)) (now (a .1 .0)))
 list_waiting-gives κs a x s h = h
+
+pub list_table-gives : (κs : Lfts 1) → Gives {L = Listing} (λ x s. record { answer = written x; out = now (s .1 .1 .0) }) (list_table.Post κs) (λ a. listing (tableText (a .0) (a .1 .0)) (now (a .1 .1 .0)))
+list_table-gives κs a x s h = h
 
 pub list_body-gives : (κs : Lfts 2) → Gives {L = Listing} (λ x s. record { answer = written x; out = now (s .1 .0) }) (list_body.Post κs) (λ a. listing (bodyText (now (a .0))) (now (a .1 .0)))
 list_body-gives κs a x s h = h

@@ -14,7 +14,7 @@ use Rattle.reader.specs.declared.Verdict.{Verdict}
 use Rattle.reader.specs.declared.Reading.{Reading}
 use Rattle.reader.specs.Read.{numberOf, offsetOf, readTable}
 use Rattle.listing.specs.Text.{tableText}
-use Rattle.listing.specs.Listing.{Written, text, refused, Listing, listing}
+use Rattle.notices.specs.Listing.{Written, text, refused, Listing, listing}
 use Rattle.bodies.specs.Body.{bodyText}
 use Rattle.dsg_tables.specs.declared.ReadAnswer.{ReadAnswer}
 use Rattle.dsg_tables.specs.declared.ReadStepped.{ReadStepped}

@@ -3,7 +3,7 @@
 // `read_value`, `list_value` and `list_body_value`. They take any table, count, bytes and buffer, and answer what the reader and
 // the listing answer, as structs of numbers.
 ghost use mathlib.Core.Path.{_≡_};
-ghost use Rattle.listing.specs.Listing.{written};
+ghost use Rattle.notices.specs.Listing.{written};
 ghost use Rattle.dsg_tables.specs.Tables.{readAnswer, readStepped, listedAs, listAfter, bodyAfter};
 use table::Table;
 
@@ -58,12 +58,12 @@ pub struct Listed {
 }
 
 // The numbers of a listing's answer.
-fn listed_from(listed: listing::Listed) -> Listed
+fn listed_from(listed: notices::Listed) -> Listed
     ensures { λ r. ⌜ r ≡ listedAs (written listed) ⌝ }
 {
     match listed {
-        listing::Listed::Text(length) => Listed { number: 0, length },
-        listing::Listed::Refused(n) => Listed {
+        notices::Listed::Text(length) => Listed { number: 0, length },
+        notices::Listed::Refused(n) => Listed {
             number: n as u32,
             length: 0,
         },

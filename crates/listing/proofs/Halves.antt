@@ -9,7 +9,8 @@ use Rattle.table.specs.declared.Classifier.{Classifier}
 use Rattle.table.specs.declared.TimerValues.{TimerValues}
 use Rattle.table.specs.declared.Table.{Table}
 use Rattle.table.specs.Table.{rulesOf, classifiersOf, channelsOf, clientsOf, numbersOf}
-use Rattle.listing.specs.Text.{ascii, field, address, sizesLine, ruleLine, classifierLine, timersLine, refusalText}
+use Rattle.texts.specs.Text.{ascii, field, address}
+use Rattle.listing.specs.Text.{sizesLine, ruleLine, classifierLine, timersLine}
 use Rattle.listing.specs.Writing.{fields}
 
 -- two fields ahead of a text
@@ -38,7 +39,3 @@ unfolding timersLine
 timersLine-halves v =
     halves (ascii "timers ") (v .tdsg1) (ascii " ") (v .tdsg2) _
     ∙ ap (λ (l : List ℕ). fields (ascii "timers ") (v .tdsg1) (ascii " ") (v .tdsg2) ++ l) (halves (ascii " ") (v .tdsg3) (ascii " ") (v .tdsg4) (ascii "\n"))
-
-pub refusalText-halves : (number offset : ℕ) → refusalText number offset ≡ fields (ascii "refused ") number (ascii " at ") offset ++ ascii "\n"
-unfolding refusalText
-refusalText-halves number offset = halves (ascii "refused ") number (ascii " at ") offset (ascii "\n")

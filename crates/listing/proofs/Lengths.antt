@@ -1,44 +1,14 @@
--- How long a line can be (specs/Text.antt).
---
---   join-short      two texts, one behind the other        end-short         a text is as long as it is
---   field-short     a word and a number below a bound      count-short       a word and a count
---   address-short   a word and a tunnel address
---   sizesLine-short 44, ruleLine-short 66, classifierLine-short 30, channelLine-short 19, timersLine-short 31, refusalText-short 36, waitingText-short 12
+-- How long a line can be (specs/Text.antt): sizesLine-short 44, ruleLine-short 66, classifierLine-short 30, channelLine-short 19, timersLine-short 31.
 -- Trusts: nothing.
-use Prim.Native.Nat.{ℕ, suc, _+_, _^_, _≤_, _<_}
-use mathlib.Core.List.{List, _++_}
-use native.Mathlib.Omega.{arith}
-use native.Mathlib.Nat.{lt-of-lt-of-le, lt-of-le-of-lt, le-refl}
-use lib.ListN.{length, length-append}
-use lib.Dec.{T, leb, ltb, leb→le, le→leb, ltb→lt}
+use Prim.Native.Nat.{ℕ, _^_, _<_}
 use Rattle.table.specs.declared.Rule.{Rule}
 use Rattle.table.specs.declared.Classifier.{Classifier}
 use Rattle.table.specs.declared.TimerValues.{TimerValues}
 use Rattle.table.specs.declared.Table.{Table}
 use Rattle.table.proofs.Laws.{length-rulesOf-le, length-classifiersOf-le, length-channelsOf-le, length-clientsOf-le, length-numbersOf-le}
-use Rattle.listing.specs.Writing.{Short}
-use Rattle.listing.specs.Text.{field, address, sizesLine, ruleLine, classifierLine, channelLine, timersLine, refusalText, waitingText}
-use Rattle.listing.proofs.Numbers.{length-decimal, length-hexadecimal}
-
-pub join-short : {a b : List ℕ} (m n : ℕ) → Short m a → Short n b → Short (m + n) (a ++ b)
-join-short {a} {b} m n p q = record { bytes = omega (arith, length-append a b, p .bytes, q .bytes) }
-
-pub end-short : (text : List ℕ) → Short (length text) text
-end-short text = record { bytes = le-refl (length text) }
-
--- a number below `bound`, which is no more than 10 ^ (k + 1)
-pub field-short : (word : List ℕ) (k : ℕ) {n bound : ℕ} → n < bound → T (leb bound (10 ^ suc k)) → Short (length word + suc k) (field word n)
-unfolding field
-field-short word k {n} {bound} h t =
-    join-short (length word) (suc k) (end-short word) (record { bytes = length-decimal k n (lt-of-lt-of-le h (leb→le bound (10 ^ suc k) t)) })
-
-pub address-short : (word : List ℕ) (n : ℕ) → Short (length word + 12) (address word n)
-unfolding address
-address-short word n = join-short (length word) 12 (end-short word) (record { bytes = omega (arith, length-hexadecimal 12 n) })
-
--- a count that is no more than its limit
-count-short : (word : List ℕ) (k limit : ℕ) {n : ℕ} → n ≤ limit → T (ltb limit (10 ^ suc k)) → Short (length word + suc k) (field word n)
-count-short word k limit h t = field-short word k (lt-of-le-of-lt h (ltb→lt limit (10 ^ suc k) t)) (le→leb (10 ^ suc k) (10 ^ suc k) (le-refl (10 ^ suc k)))
+use Rattle.texts.specs.Writing.{Short}
+use Rattle.texts.proofs.Lengths.{join-short, end-short, field-short, address-short, count-short}
+use Rattle.listing.specs.Text.{sizesLine, ruleLine, classifierLine, channelLine, timersLine}
 
 pub sizesLine-short : (count : ℕ) (t : Table) → count < 256 → Short 44 (sizesLine count t)
 unfolding sizesLine
@@ -70,11 +40,3 @@ module _ (v : TimerValues) where
   unfolding timersLine
   timersLine-short a b c d =
       join-short 12 19 (field-short _ 4 a tt) (join-short 6 13 (field-short _ 4 b tt) (join-short 6 7 (field-short _ 4 c tt) (join-short 6 1 (field-short _ 4 d tt) (end-short _))))
-
-pub refusalText-short : (number offset : ℕ) → number < 256 → offset < 2 ^ 64 → Short 36 (refusalText number offset)
-unfolding refusalText
-refusalText-short number offset h p = join-short 11 25 (field-short _ 2 h tt) (join-short 24 1 (field-short _ 19 p tt) (end-short _))
-
-pub waitingText-short : (slots : ℕ) → slots < 256 → Short 12 (waitingText slots)
-unfolding waitingText
-waitingText-short slots h = join-short 11 1 (field-short _ 2 h tt) (end-short _)

@@ -1,4 +1,4 @@
--- How large a buffer always suffices: the longest listing of any table has 3,755 bytes (specs/Listing.antt).
+-- How large a buffer always suffices: the longest listing of any table has 3,755 bytes (specs/Listing.antt of notices).
 --
 --   Ranged count t     every number that is listed fits its field, as it does in any lent table
 --   listing-fits       then the listing has at most 3,755 bytes
@@ -16,9 +16,11 @@ use Rattle.table.specs.declared.Classifier.{Classifier}
 use Rattle.table.specs.declared.Table.{Table}
 use Rattle.table.specs.Table.{limitedTo, rulesOf, classifiersOf, channelsOf, clientsOf, numbersOf, emptyClient, emptyRule, emptyClassifier}
 use Rattle.table.proofs.Laws.{length-rulesOf-le, length-classifiersOf-le, length-channelsOf-le}
-use Rattle.listing.specs.Text.{digit, decimal, decimalIn, hexadecimal, field, address, sizesLine, ruleLine, classifierLine, channelLine, timersLine, linesOf, tableText}
-use Rattle.listing.specs.Writing.{Short}
-use Rattle.listing.proofs.Lengths.{join-short, sizesLine-short, ruleLine-short, classifierLine-short, channelLine-short, timersLine-short}
+use Rattle.texts.specs.Text.{digit, decimal, decimalIn, hexadecimal, field, address}
+use Rattle.texts.specs.Writing.{Short}
+use Rattle.texts.proofs.Lengths.{join-short}
+use Rattle.listing.specs.Text.{sizesLine, ruleLine, classifierLine, channelLine, timersLine, linesOf, tableText}
+use Rattle.listing.proofs.Lengths.{sizesLine-short, ruleLine-short, classifierLine-short, channelLine-short, timersLine-short}
 
 pub record Ranged (count : ℕ) (t : Table) : Type 0 where
   pub change : count < 256

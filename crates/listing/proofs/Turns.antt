@@ -13,10 +13,10 @@ use native.Mathlib.Numerals.{add-one}
 use lib.ListN.{length, take, getD}
 use lib.Seq.{take-suc, take-all}
 use Rattle.wire.proofs.Laws.{length-pasted}
+use Rattle.texts.specs.Writing.{Fits, Short, Lined}
+use Rattle.texts.proofs.Lengths.{join-short}
+use Rattle.texts.proofs.Written.{fits-most, wrote-same, wrote-none, wrote-then}
 use Rattle.listing.specs.Text.{linesOf}
-use Rattle.listing.specs.Writing.{Fits, Wrote, Short, Lined}
-use Rattle.listing.proofs.Lengths.{join-short}
-use Rattle.listing.proofs.Written.{fits-most, wrote-same, wrote-none, wrote-then}
 
 linesOf-append : {A : Type 0} (line : A → List ℕ) (xs ys : List A) → linesOf line (xs ++ ys) ≡ linesOf line xs ++ linesOf line ys
 unfolding linesOf

@@ -1,20 +1,37 @@
-// The lines of a listing, each at a place of a buffer.
+// The lines of a table's listing, each at a place of a buffer.
 //
-// Every function here is private to the crate. It asks for as many bytes from `at` on as its longest text
+// Every function here is private to the crate. It asks for room from `at` on, a line for as many bytes as its longest text
 // takes, writes its text and answers the place behind it.
+ghost use mathlib.Core.List.{[], _∷_, _++_};
 ghost use Prim.Native.Nat.{_+_, _≤_};
 ghost use lib.ListN.{length};
 ghost use Rattle.table.specs.Table.{rulesOf, classifiersOf, channelsOf};
-ghost use Rattle.listing.specs.Text.{sizesLine, ruleLine, classifierLine, channelLine, timersLine, linesOf, refusalText, waitingText};
-ghost use Rattle.listing.specs.Writing.{Lined};
-use crate::text::put_address;
-use crate::text::put_last;
-use crate::text::put_last_two;
-use crate::text::put_two;
+ghost use Rattle.texts.specs.Writing.{Fits, Wrote, Lined};
+ghost use Rattle.listing.specs.Text.{sizesLine, ruleLine, classifierLine, channelLine, timersLine, linesOf};
+ghost use Rattle.listing.specs.Writing.{fields};
 use table::Classifier;
 use table::Rule;
 use table::Table;
 use table::TimerValues;
+
+// Two fixed words, a number behind each.
+fn put_two(first: &[u8], m: u64, second: &[u8], n: u64, out: &mut [u8], at: usize) -> usize
+    requires { ⌜ Fits (now out) at (fields (now first) m (now second) n) ⌝ }
+    ensures { λ r. ⌜ Wrote (now (out .entry)) at (fields (now (first .entry)) m (now (second .entry)) n) (now (out .exit)) r ⌝ }
+{
+    let next = texts::put_field(first, m, out, at);
+    texts::put_field(second, n, out, next)
+}
+
+// Two fixed words, a number behind each, and the line's end.
+fn put_last_two(first: &[u8], m: u64, second: &[u8], n: u64, out: &mut [u8], at: usize) -> usize
+    requires { ⌜ Fits (now out) at (fields (now first) m (now second) n ++ (10 ∷ [])) ⌝ }
+    ensures { λ r. ⌜ Wrote (now (out .entry)) at (fields (now (first .entry)) m (now (second .entry)) n ++ (10 ∷ [])) (now (out .exit)) r ⌝ }
+{
+    let next = put_two(first, m, second, n, out, at);
+    out[next] = 10;
+    next + 1
+}
 
 // The first line: the change count and three sizes.
 pub(crate) fn put_sizes(count: u8, table: Table, out: &mut [u8], at: usize) -> usize
@@ -50,7 +67,7 @@ fn put_rule(rule: Rule, out: &mut [u8], at: usize) -> usize
         out,
         at,
     );
-    let b = put_address(b" tunnel ", rule.tunnel, out, a);
+    let b = texts::put_address(b" tunnel ", rule.tunnel, out, a);
     put_last_two(
         b" clients ",
         clients as u64,
@@ -81,7 +98,9 @@ fn put_channel(hertz: u32, out: &mut [u8], at: usize) -> usize
     requires { ⌜ at + 19 ≤ length (now out) ⌝ }
     ensures { λ r. ⌜ Lined 19 (now (out .entry)) at (channelLine hertz) (now (out .exit)) r ⌝ }
 {
-    put_last(b"channel ", hertz as u64, out, at)
+    let next = texts::put_field(b"channel ", hertz as u64, out, at);
+    out[next] = 10;
+    next + 1
 }
 
 // The line of the timer values.
@@ -153,20 +172,4 @@ pub(crate) fn put_channels(table: Table, out: &mut [u8], at: usize) -> usize
         i += 1;
     }
     next
-}
-
-// The line of a refusal.
-pub(crate) fn put_refusal(number: u8, offset: usize, out: &mut [u8], at: usize) -> usize
-    requires { ⌜ at + 36 ≤ length (now out) ⌝ }
-    ensures { λ r. ⌜ Lined 36 (now (out .entry)) at (refusalText number offset) (now (out .exit)) r ⌝ }
-{
-    put_last_two(b"refused ", number as u64, b" at ", offset as u64, out, at)
-}
-
-// The line of an unfinished collection.
-pub(crate) fn put_waiting(slots: u8, out: &mut [u8], at: usize) -> usize
-    requires { ⌜ at + 12 ≤ length (now out) ⌝ }
-    ensures { λ r. ⌜ Lined 12 (now (out .entry)) at (waitingText slots) (now (out .exit)) r ⌝ }
-{
-    put_last(b"waiting ", slots as u64, out, at)
 }

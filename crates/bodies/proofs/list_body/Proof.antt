@@ -4,7 +4,7 @@ use mathlib.Core.Path.{_≡_, ap, _∙_}
 use mathlib.Core.List.{List}
 use Prim.Native.Nat.{ℕ}
 use borrow.Author.Needs.{needs}
-use Rattle.listing.specs.Listing.{listing}
+use Rattle.notices.specs.Listing.{listing}
 use Rattle.bodies.proofs.Laws.{bodyText-from}
 use Rattle.bodies.proofs.list_body.Statement.{statement}
 use Rattle.bodies.proofs.list_body.Tie as tie

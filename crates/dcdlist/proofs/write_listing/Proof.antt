@@ -5,7 +5,7 @@ use mathlib.Core.Path.{sym}
 use lib.ListN.{length}
 use lib.Seq.{length-take-le}
 use borrow.Author.Needs.{needs}
-use Rattle.listing.proofs.Listings.{listing-within}
+use Rattle.notices.proofs.Listings.{listing-within}
 use Rattle.dcdlist.proofs.write_listing.Statement.{statement}
 use Rattle.dcdlist.proofs.write_listing.Tie as tie
 

@@ -4,7 +4,8 @@ use native.Mathlib.Omega.{arith}
 use lib.Dec.{lit≤}
 use borrow.Author.Needs.{needs}
 use Rattle.listing.specs.Text.{tableText}
-use Rattle.listing.proofs.Listings.{listing-refused, listing-text, lined-then}
+use Rattle.texts.proofs.Lengths.{lined-then}
+use Rattle.notices.proofs.Listings.{listing-refused, listing-text}
 use Rattle.listing.proofs.list_table.Statement.{statement}
 use Rattle.listing.proofs.list_table.Tie as tie
 

@@ -3,10 +3,10 @@
 use mathlib.Core.Path.{sym}
 use borrow.Author.Needs.{needs}
 use Rattle.listing.specs.Text.{classifierLine}
-use Rattle.listing.specs.Writing.{Fits, Short}
+use Rattle.texts.specs.Writing.{Short}
 use Rattle.listing.proofs.Lengths.{classifierLine-short}
 use Rattle.listing.proofs.Halves.{classifierLine-halves}
-use Rattle.listing.proofs.Written.{fits-most, fits-same, wrote-same}
+use Rattle.texts.proofs.Written.{fits-most, fits-same, wrote-same}
 use Rattle.listing.proofs.lines.put_classifier.Statement.{statement}
 use Rattle.listing.proofs.lines.put_classifier.Tie as tie
 

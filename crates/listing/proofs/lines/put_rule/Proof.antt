@@ -8,11 +8,14 @@ use borrow.Author.Needs.{needs}
 use Rattle.table.specs.declared.Rule.{Rule}
 use Rattle.table.specs.Table.{clientsOf, numbersOf}
 use Rattle.table.proofs.Laws.{length-clientsOf, length-numbersOf, length-mapped}
-use Rattle.listing.specs.Text.{ascii, address, ruleLine}
-use Rattle.listing.specs.Writing.{fields, Fits, Short}
+use Rattle.texts.specs.Text.{ascii, address}
+use Rattle.listing.specs.Text.{ruleLine}
+use Rattle.texts.specs.Writing.{Fits, Wrote, Short}
+use Rattle.texts.proofs.Puts.{put-first}
+use Rattle.listing.specs.Writing.{fields}
 use Rattle.listing.proofs.Lengths.{ruleLine-short}
 use Rattle.listing.proofs.Halves.{ruleLine-halves}
-use Rattle.listing.proofs.Written.{fits-most, fits-same, fits-first, fits-rest, wrote-same, wrote-then}
+use Rattle.texts.proofs.Written.{fits-most, fits-same, fits-first, fits-rest, wrote-same, wrote-then}
 use Rattle.listing.proofs.lines.put_rule.Statement.{statement}
 use Rattle.listing.proofs.lines.put_rule.Tie as tie
 
@@ -45,21 +48,24 @@ put-two-requires : tie.Need-put-two-requires
 unfolding printed
 put-two-requires c κs = fits-first _ (fits (c .before .before .before .before .before))
 
-put-address-requires : tie.Need-put-address-requires
+-- what is behind the first half has room, and its first part is the address
+rest : (c : tie.After-put-two) → Fits (c .put-two .last .1 .1 .1 .1 .0) (c .put-two .result) (address (ascii " tunnel ") (c .before .before .before .before .before .before .before .before .before .args .rule .tunnel) ++ (fields (ascii " clients ") (c .before .before .before .before .before .before .before .limited .result) (ascii " classifiers ") (c .before .before .before .before .before .before .limited2 .result) ++ ascii "\n"))
 unfolding printed
-put-address-requires c κs = fits-first _ (fits-rest (fits (c .before .before .before .before .before .before .before .before .before .before)) (c .before .before .before .before .put-two .ensures))
+rest c = fits-rest (fits (c .before .before .before .before .before .before)) (c .put-two .ensures)
+
+second : (c : tie.After-put-address) → Wrote (c .before .before .before .before .before .put-two .last .1 .1 .1 .1 .0) (c .before .before .before .before .before .put-two .result) (address (ascii " tunnel ") (c .before .before .before .before .before .before .before .before .before .before .before .before .before .before .args .rule .tunnel)) (c .put-address .last .1 .1 .0) (c .put-address .result)
+second c = put-first _ (rest (c .before .before .before .before .before)) (c .put-address .ensures)
 
 put-last-two-requires : tie.Need-put-last-two-requires
-unfolding printed
-put-last-two-requires c κs = fits-rest (fits-rest (fits (c .before .before .before .before .before .before .before .before .before .before .before .before .before .before .before .before)) (c .before .before .before .before .before .before .before .before .before .before .put-two .ensures)) (c .before .before .before .before .before .put-address .ensures)
+put-last-two-requires c κs = fits-rest (rest (c .before .before .before .before .before .before .before .before .before .before)) (second (c .before .before .before .before .before))
 
 returns : tie.Need-returns
 unfolding printed
 returns c =
     record {
-      wrote = wrote-same (same (c .before .before .before .before .before .before .before .before .before .before .before .before .before .before .before .before .before .before .before)) (wrote-then (fits (c .before .before .before .before .before .before .before .before .before .before .before .before .before .before .before .before .before .before .before)) (c .before .before .before .before .before .before .before .before .before .before .before .before .before .put-two .ensures) (wrote-then (fits-rest (fits (c .before .before .before .before .before .before .before .before .before .before .before .before .before .before .before .before .before .before .before)) (c .before .before .before .before .before .before .before .before .before .before .before .before .before .put-two .ensures)) (c .before .before .before .before .before .before .before .before .put-address .ensures) (c .before .before .put-last-two .ensures)));
+      wrote = wrote-same (same (c .before .before .before .before .before .before .before .before .before .before .before .before .before .before .before .before .before .before .before)) (wrote-then (fits (c .before .before .before .before .before .before .before .before .before .before .before .before .before .before .before .before .before .before .before)) (c .before .before .before .before .before .before .before .before .before .before .before .before .before .put-two .ensures) (wrote-then (rest (c .before .before .before .before .before .before .before .before .before .before .before .before .before)) (second (c .before .before .before .before .before .before .before .before)) (c .before .before .put-last-two .ensures)));
       short = short (c .before .before .before .before .before .before .before .before .before .before .before .before .before .before .before .before .before .before .before);
     }
 
 pub put-rule-spec : {M : Type 1} → statement M
-put-rule-spec = tie.close (tie.spec (λ c κs. search needs) (λ c κs. search needs) (λ c. search needs) (λ c. search needs) (λ c. search needs) (λ c. search needs) put-two-requires (λ c. search needs) put-address-requires (λ c. search needs) (λ c. search needs) put-last-two-requires (λ c. search needs) returns)
+put-rule-spec = tie.close (tie.spec (λ c κs. search needs) (λ c κs. search needs) (λ c. search needs) (λ c. search needs) (λ c. search needs) (λ c. search needs) put-two-requires (λ c. search needs) (λ c κs. search needs) (λ c. search needs) (λ c. search needs) put-last-two-requires (λ c. search needs) returns)

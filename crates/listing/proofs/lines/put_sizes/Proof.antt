@@ -7,11 +7,13 @@ use lib.ListN.{length}
 use borrow.Author.Needs.{needs}
 use Rattle.table.specs.Table.{rulesOf, classifiersOf, channelsOf}
 use Rattle.table.proofs.Laws.{length-rulesOf, length-classifiersOf, length-channelsOf, length-mapped}
-use Rattle.listing.specs.Text.{ascii, sizesLine}
-use Rattle.listing.specs.Writing.{fields, Fits, Short}
+use Rattle.texts.specs.Text.{ascii}
+use Rattle.listing.specs.Text.{sizesLine}
+use Rattle.texts.specs.Writing.{Fits, Short}
+use Rattle.listing.specs.Writing.{fields}
 use Rattle.listing.proofs.Lengths.{sizesLine-short}
 use Rattle.listing.proofs.Halves.{sizesLine-halves}
-use Rattle.listing.proofs.Written.{fits-most, fits-same, fits-first, fits-rest, wrote-same, wrote-then}
+use Rattle.texts.proofs.Written.{fits-most, fits-same, fits-first, fits-rest, wrote-same, wrote-then}
 use Rattle.listing.proofs.lines.put_sizes.Statement.{statement}
 use Rattle.listing.proofs.lines.put_sizes.Tie as tie
 

@@ -3,11 +3,13 @@
 use mathlib.Core.Path.{sym}
 use mathlib.Core.List.{_++_}
 use borrow.Author.Needs.{needs}
-use Rattle.listing.specs.Text.{ascii, timersLine}
-use Rattle.listing.specs.Writing.{fields, Fits, Short}
+use Rattle.texts.specs.Text.{ascii}
+use Rattle.listing.specs.Text.{timersLine}
+use Rattle.texts.specs.Writing.{Fits, Short}
+use Rattle.listing.specs.Writing.{fields}
 use Rattle.listing.proofs.Lengths.{timersLine-short}
 use Rattle.listing.proofs.Halves.{timersLine-halves}
-use Rattle.listing.proofs.Written.{fits-most, fits-same, fits-first, fits-rest, wrote-same, wrote-then}
+use Rattle.texts.proofs.Written.{fits-most, fits-same, fits-first, fits-rest, wrote-same, wrote-then}
 use Rattle.listing.proofs.lines.put_timers.Statement.{statement}
 use Rattle.listing.proofs.lines.put_timers.Tie as tie
 

@@ -1,0 +1,6 @@
+-- Lengths: how long a line can be.
+-- Listings: laws of the public contracts.
+-- Bench: document 01's examples, computed.
+pub mod Lengths
+pub mod Listings
+pub mod Bench
