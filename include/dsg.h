@@ -333,7 +333,7 @@ uint32_t dsg_event(struct dsg_modem *modem, uint32_t clock, uint8_t event, uint1
                    uint16_t d);
 
 /* Whether the transmitter is on, and whether tunnels are forwarded. Lent: the modem. Nothing is written.
- * Definition: modem_record/specs/Record transmits, forwards. */
+ * Definition: modem_asked/specs/Asked transmits, forwards. */
 bool dsg_transmits(const struct dsg_modem *modem);
 bool dsg_forwards(const struct dsg_modem *modem);
 

@@ -53,6 +53,7 @@ use Rattle.modem_record.specs.declared.Modem.{Modem}
 use Rattle.modem_step.specs.declared.Answer.{Answer}
 use Rattle.modem_step.specs.declared.Stepped.{Stepped}
 use Rattle.modem_record.specs.Record as kept
+use Rattle.modem_asked.specs.Asked as asked
 use Rattle.modem_record.specs.Record.{emptyModem}
 use Rattle.modem_step.specs.Step.{steppedModem}
 use Rattle.modem_step.specs.Numbers.{numberedStep}
@@ -60,8 +61,8 @@ use Rattle.modem.proofs.step_modem.Reads as step_modem
 use Rattle.modem.proofs.step_modem.Statement as step_modem′
 use Rattle.modem.proofs.step_modem.Met as step_modem″
 use Rattle.modem_step.proofs.step_numbered.Reads as step_numbered
-use Rattle.modem_record.proofs.transmits.Reads as transmits
-use Rattle.modem_record.proofs.forwards.Reads as forwards
+use Rattle.modem_asked.proofs.transmits.Reads as transmits
+use Rattle.modem_asked.proofs.forwards.Reads as forwards
 use Rattle.modem_record.proofs.empty_modem.Reads as empty_modem
 use Rattle.modem_record.proofs.counts_idle.Reads as counts_idle
 use Rattle.modem_rows.specs.Numbers.{eventOf}
@@ -169,10 +170,10 @@ pub step_numbered-gives : (κs : Lfts 0) → Gives answer (step_numbered.Post κ
     (λ a. numberedStep (a .0) (a .1 .0) (a .1 .1 .0) (a .1 .1 .1 .0) (a .1 .1 .1 .1 .0) (a .1 .1 .1 .1 .1 .0) (a .1 .1 .1 .1 .1 .1 .0))
 step_numbered-gives κs a x s h = h
 
-pub transmits-gives : (κs : Lfts 0) → Gives answer (transmits.Post κs) (λ a. kept.transmits (a .0))
+pub transmits-gives : (κs : Lfts 0) → Gives answer (transmits.Post κs) (λ a. asked.transmits (a .0))
 transmits-gives κs a x s h = h
 
-pub forwards-gives : (κs : Lfts 0) → Gives answer (forwards.Post κs) (λ a. kept.forwards (a .0))
+pub forwards-gives : (κs : Lfts 0) → Gives answer (forwards.Post κs) (λ a. asked.forwards (a .0))
 forwards-gives κs a x s h = h
 
 pub empty_modem-gives : (κs : Lfts 0) → Gives answer (empty_modem.Post κs) (λ a. emptyModem)

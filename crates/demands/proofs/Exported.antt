@@ -14,7 +14,8 @@ use Rattle.table.specs.Table.{emptyTable}
 use Rattle.collection.specs.Record.{emptyCollection}
 use Rattle.prepared.specs.Prepared.{preparedVerdict}
 use Rattle.preparing.specs.Preparing.{preparedTunnel}
-use Rattle.modem_record.specs.Record.{transmits, forwards, emptyModem}
+use Rattle.modem_record.specs.Record.{emptyModem}
+use Rattle.modem_asked.specs.Asked.{transmits, forwards}
 use Rattle.dsg_pieces.specs.Bodies.{CollectAfter, collectAfter, ReceiveAfter, receiveAfter}
 use Rattle.dsg_tables.specs.declared.ReadStepped.{ReadStepped}
 use Rattle.dsg_tables.specs.Tables.{readStepped, ListAfter, listAfter, bodyAfter}

@@ -31,8 +31,8 @@ use Rattle.modem_record.proofs.counts_idle.Reads as counts_idle
 use Rattle.modem_rows.proofs.act.Reads as act
 use Rattle.modem.proofs.step_modem.Reads as step_modem
 use Rattle.modem_step.proofs.step_numbered.Reads as step_numbered
-use Rattle.modem_record.proofs.transmits.Reads as transmits
-use Rattle.modem_record.proofs.forwards.Reads as forwards
+use Rattle.modem_asked.proofs.transmits.Reads as transmits
+use Rattle.modem_asked.proofs.forwards.Reads as forwards
 use Rattle.receiver.specs.Receive.{told, Had}
 use Rattle.receiver.proofs.receive.Reads as receive
 

@@ -18,7 +18,8 @@ use Rattle.modem_step.specs.declared.Stepped.{Stepped}
 use Rattle.modem_step.specs.declared.Answer.the-variants.{Done}
 use Rattle.modem_rows.specs.declared.Event.{Event}
 use Rattle.modem_rows.specs.declared.Event.the-variants.{Start, Locked, ScanEmpty, TableAccepted, Packet, Tick, Enable, UpstreamUp, UpstreamLost, Disable, Hunt, DownstreamLost, Unnamed}
-use Rattle.modem_record.specs.Record.{countsIdle, transmits}
+use Rattle.modem_record.specs.Record.{countsIdle}
+use Rattle.modem_asked.specs.Asked.{transmits}
 use Rattle.modem_rows.specs.Events.{disableRow, disableEvent, eventOn}
 use Rattle.modem_step.specs.Step.{isBack, isStart, aged, answerNumber, steppedModem, nextModem}
 use Rattle.modem_step.proofs.Laws.{steppedModem-ignored, steppedModem-back, steppedModem-taken}

@@ -3,7 +3,8 @@
 // `dsg_empty_modem`, `dsg_event`, `dsg_transmits` and `dsg_forwards`. An event is a number and four
 // arguments; at one that names none only the clock and the running timers move.
 ghost use mathlib.Core.Path.{_≡_};
-ghost use Rattle.modem_record.specs.Record.{transmits, forwards, emptyModem};
+ghost use Rattle.modem_record.specs.Record.{emptyModem};
+ghost use Rattle.modem_asked.specs.Asked.{transmits, forwards};
 ghost use Rattle.dsg_events.specs.Events.{eventStepped};
 use dsg_events::event_value;
 use modem_record::Modem;
@@ -31,7 +32,7 @@ pub extern "C" fn dsg_event(
 pub extern "C" fn dsg_transmits(modem: &Modem) -> bool
     ensures { λ r. ⌜ r ≡ transmits (now (modem .entry)) ⌝ }
 {
-    modem_record::transmits(*modem)
+    modem_asked::transmits(*modem)
 }
 
 // Whether tunnels are forwarded.
@@ -39,7 +40,7 @@ pub extern "C" fn dsg_transmits(modem: &Modem) -> bool
 pub extern "C" fn dsg_forwards(modem: &Modem) -> bool
     ensures { λ r. ⌜ r ≡ forwards (now (modem .entry)) ⌝ }
 {
-    modem_record::forwards(*modem)
+    modem_asked::forwards(*modem)
 }
 
 // An idle record.

@@ -19,7 +19,8 @@ use Rattle.modem_step.specs.declared.Answer.the-variants.{Done, ClockBack}
 use Rattle.modem_rows.specs.declared.Event.{Event}
 use Rattle.modem_rows.specs.declared.Event.the-variants.{Disable}
 use Rattle.modem_record.specs.States.{isSending, isForwarding}
-use Rattle.modem_record.specs.Record.{countsIdle, transmits, forwards}
+use Rattle.modem_record.specs.Record.{countsIdle}
+use Rattle.modem_asked.specs.Asked.{transmits, forwards}
 use Rattle.modem_rows.specs.Events.{disableRow, disableEvent, eventOn}
 use Rattle.modem_step.specs.Step.{isBack, isStart, aged, answerNumber, steppedModem, nextModem}
 use Rattle.modem_step.proofs.Laws.{and-left, and-right, steppedModem-ignored, steppedModem-back, steppedModem-taken}

@@ -1,8 +1,7 @@
--- Record: which modem records keep the rules, what a host asks of one, and how one is changed (document 01, "Modem record").
+-- Record: which modem records keep the rules, and how one is changed (document 01, "Modem record").
 --
 --   isBroken m             the record breaks a rule;  wellKept m   it breaks none
 --   countsIdle m           it is Idle, or counts as Idle because it breaks a rule
---   transmits, forwards    the transmitter is on; tunnels are forwarded
 --   emptyModem             an idle record
 --   moved m state ucid receive retry   the record in that state, with that UCID and those two timers
 --   allowed m p, valued m a b c d      its permission set; its timer values set, a Tdsg1 or Tdsg2 of 0 as its default
@@ -13,7 +12,7 @@ use Prim.Native.Nat.{ℕ}
 use mathlib.Core.Bool.{Bool, cond, not, _&&_, _||_}
 use lib.Dec.{ltb, eqb}
 use Rattle.modem_record.specs.declared.Modem.{Modem}
-use Rattle.modem_record.specs.States.{idle, scanning, oneWay, twoWay, resting, isAt, isForwarding, isSending, isPermitted, Marked, receiveOf, retryOf, isOn}
+use Rattle.modem_record.specs.States.{idle, scanning, oneWay, twoWay, resting, isAt, isSending, isPermitted, Marked, receiveOf, retryOf, isOn}
 
 -- the mark of the receive timer: it runs outside Idle and Scanning
 abbrev pub receiveMark : Modem → ℕ
@@ -58,12 +57,6 @@ wellKept m = not (isBroken m)
 
 unfoldable pub countsIdle : Modem → Bool
 countsIdle m = isAt idle m || isBroken m
-
-unfoldable pub transmits : Modem → Bool
-transmits m = not (countsIdle m) && isSending m
-
-unfoldable pub forwards : Modem → Bool
-forwards m = not (countsIdle m) && isForwarding m
 
 abbrev pub emptyModem : Modem
 emptyModem =

@@ -1,12 +1,11 @@
-// The modem record (document 01, "Modem record"): its states, its marks, and what a host asks of it.
+// The modem record (document 01, "Modem record"): its states, its marks, and which records keep the rules.
 //
 // `empty_modem` is an idle record to begin with. `counts_idle` is the test that every event but Start meets first: a record
-// that breaks the rules counts as Idle. `transmits` and `forwards` say what a host asks. All take any record and change
-// none.
+// that breaks the rules counts as Idle. It takes any record and changes none.
 ghost use mathlib.Core.Path.{_≡_};
 ghost use Prim.Native.Nat.{_≤_};
 ghost use lib.Dec.{eqb};
-ghost use Rattle.modem_record.specs.Record.{countsIdle, transmits, forwards, emptyModem};
+ghost use Rattle.modem_record.specs.Record.{countsIdle, emptyModem};
 ghost use Rattle.modem_record.specs.Idle.{isUnsuited, isLate, isHeldOver};
 
 // The numbers of the states. Any other number breaks a record.
@@ -128,20 +127,4 @@ pub fn counts_idle(m: Modem) -> bool
         return true;
     }
     is_held_over(m.receiveon, m.receive)
-}
-
-// Whether the transmitter is on.
-pub fn transmits(modem: Modem) -> bool
-    ensures { λ r. ⌜ r ≡ transmits modem ⌝ }
-{
-    let s = modem.state;
-    !counts_idle(modem) & ((s == RANGING) | (s == TWO_WAY))
-}
-
-// Whether tunnels are forwarded.
-pub fn forwards(modem: Modem) -> bool
-    ensures { λ r. ⌜ r ≡ forwards modem ⌝ }
-{
-    let s = modem.state;
-    !counts_idle(modem) & ((s == ONE_WAY) | (s == RANGING) | (s == TWO_WAY))
 }

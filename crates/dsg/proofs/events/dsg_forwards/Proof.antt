@@ -1,11 +1,11 @@
--- `dsg::events::dsg_forwards` meets its contract: its code is `asked` of `modem_record::forwards`, whose walk is in proofs/Asked.antt.
+-- `dsg::events::dsg_forwards` meets its contract: its code is `asked` of `modem_asked::forwards`, whose walk is in proofs/Asked.antt.
 -- Trusts: nothing.
 use Rattle.dsg.proofs.Walk.{_≡_, refl, URA, SProp, Memory, Routine, Heap, Atoms, Fun, entered, cited, tripleOf, givenOf, tables, tablesOf}
 use Rattle.dsg.proofs.Asked.{asks, Callee, meets}
-use Rattle.modem_record.specs.Record.{forwards}
-use Rattle.modem_record.proofs.forwards.Symbol as forwards-def
-use Rattle.modem_record.proofs.forwards.Symbol.{name as #modem-record·forwards}
-use Rattle.modem_record.proofs.forwards.Met as forwards-thm
+use Rattle.modem_asked.specs.Asked.{forwards}
+use Rattle.modem_asked.proofs.forwards.Symbol as forwards-def
+use Rattle.modem_asked.proofs.forwards.Symbol.{name as #modem-asked·forwards}
+use Rattle.modem_asked.proofs.forwards.Met as forwards-thm
 use Rattle.dsg.proofs.events.dsg_forwards.Key.{name as #dsg·events·dsg-forwards}
 use Rattle.dsg.proofs.events.dsg_forwards as dsg-forwards
 use Rattle.dsg.proofs.events.dsg_forwards.Statement as stated
@@ -20,6 +20,6 @@ unfolding code.routine tablesOf
 dsg-forwards-spec 𝓤 H 𝓜 𝓖 𝓡 =
     entered 𝓤 H (tripleOf 𝓤 H (𝓖 .A) dsg-forwards.signature (dsg-forwards.spec 𝓤 H (𝓖 .A) (𝓜 .mem) (𝓡 .run)))
     (tables 𝓤 H 𝓜 𝓡 code.env .C) (tables 𝓤 H 𝓜 𝓡 code.env .Λ) #dsg·events·dsg-forwards code.function (code.unfolded 𝓤 H 𝓜 𝓡)
-    (meets #modem-record·forwards forwards 𝓤 H (𝓖 .A) (givenOf 𝓤 H 𝓜 𝓖) (𝓜 .mem) (𝓡 .run) (tablesOf 𝓤 H 𝓜 (tables 𝓤 H 𝓜 𝓡 code.env))
-    (cited 𝓤 H (Callee forwards 𝓤 H (𝓖 .A) (𝓜 .mem) (𝓡 .run)) 𝓜 𝓡 code.env #modem-record·forwards forwards-def.routine code.calls-modem-record·forwards (forwards-thm.met 𝓤 H 𝓜 𝓖 𝓡))
+    (meets #modem-asked·forwards forwards 𝓤 H (𝓖 .A) (givenOf 𝓤 H 𝓜 𝓖) (𝓜 .mem) (𝓡 .run) (tablesOf 𝓤 H 𝓜 (tables 𝓤 H 𝓜 𝓡 code.env))
+    (cited 𝓤 H (Callee forwards 𝓤 H (𝓖 .A) (𝓜 .mem) (𝓡 .run)) 𝓜 𝓡 code.env #modem-asked·forwards forwards-def.routine code.calls-modem-asked·forwards (forwards-thm.met 𝓤 H 𝓜 𝓖 𝓡))
     (dsg-forwards.clauses 𝓤 H (𝓖 .A) (𝓜 .mem) (𝓡 .run)) (contract 𝓤 H (𝓖 .A) (𝓜 .mem) (𝓡 .run)))
