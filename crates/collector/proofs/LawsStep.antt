@@ -16,13 +16,14 @@ use lib.Dec.{eqb}
 use Rattle.compare.specs.Compare.{sameBytes}
 use Rattle.wire.proofs.Laws.{both}
 use Rattle.collector.specs.Answers.{refused, again, waiting, complete}
-use Rattle.collection.specs.Record.{isFilled, emptySlots, wellMade, isOf, emptyCollection}
+use Rattle.collection.specs.Record.{emptyCollection}
+use Rattle.held.specs.Held.{isFilled, emptySlots, wellMade, isOf}
 use Rattle.collector.specs.Pieces.{pieceAt, joined}
 use Rattle.body_tests.specs.Refusals.{countOf, numberOf, slotOf, pieceOf, refusalOf}
 use Rattle.collector.specs.Step.{goesOn, repeats, anew, relationOf, baseOf, noted, After, after, finished, accepted, collectStep}
 use Rattle.collector.specs.Duties.{storedStep}
 use Rattle.collection.specs.declared.Collection.{Collection}
-use Rattle.collection.proofs.Laws.{wellMade-short}
+use Rattle.held.proofs.Laws.{wellMade-short}
 
 -- ---- the record
 

@@ -3,7 +3,7 @@
 --   relationOf r slots body    how the body stands to what is held: goesOn, repeats, or begins anew
 --   collectStep r slots join body   the answer, the record and both buffers after the call
 --
--- Any record and any lengths have a meaning: what a record holds is said in specs/ of collection, and what is refused in specs/ of body_tests.
+-- Any record and any lengths have a meaning: what a record holds is said in specs/ of held, and what is refused in specs/ of body_tests.
 -- Tested by: the bench example in proofs/Bench.antt of collector_demands; runs of bodies against the other program in host/.
 -- Trusts: nothing.
 use Prim.Native.Nat.{ℕ, _*_, _-_}
@@ -14,7 +14,8 @@ use lib.Dec.{eqb}
 use Rattle.wire.specs.Bytes.{pasted}
 use Rattle.compare.specs.Compare.{sameBytes}
 use Rattle.collection.specs.declared.Collection.{Collection}
-use Rattle.collection.specs.Record.{isFilled, emptySlots, isOf, emptyCollection}
+use Rattle.collection.specs.Record.{emptyCollection}
+use Rattle.held.specs.Held.{isFilled, emptySlots, isOf}
 use Rattle.body_tests.specs.Refusals.{countOf, numberOf, slotOf, pieceOf, refusalOf}
 use Rattle.collector.specs.Pieces.{pieceAt, joined}
 use Rattle.collector.specs.Answers.{Said, refused, again, waiting, complete}

@@ -12,7 +12,7 @@ ghost use mathlib.Core.List.{_++_};
 ghost use lib.ListN.{length, take, drop, getD};
 ghost use Rattle.wire.specs.Bytes.{pasted};
 ghost use Rattle.compare.specs.Compare.{sameBytes};
-ghost use Rattle.collection.specs.Record.{emptySlots};
+ghost use Rattle.held.specs.Held.{emptySlots};
 ghost use Rattle.body_tests.specs.Refusals.{numberOf, pieceOf, Fits};
 ghost use Rattle.collector.specs.Pieces.{joined};
 ghost use Rattle.collector.specs.Answers.{said};
@@ -75,7 +75,7 @@ fn relate(held: Collection, slots: &[u8], body: &[u8]) -> u8
     requires { ⌜ (24000 ≤ length (now slots)) × Fits (now body) ⌝ }
     ensures { λ r. ⌜ r ≡ relationOf held (now (slots .entry)) (now (body .entry)) ⌝ }
 {
-    if !collection::is_of(held, body[0], body[1]) {
+    if !held::is_of(held, body[0], body[1]) {
         return ANEW;
     }
     let s = body[2] as usize;

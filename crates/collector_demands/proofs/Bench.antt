@@ -16,7 +16,8 @@ use native.Mathlib.Omega.{arith}
 use lib.ListN.{length, getD, take, drop, replicate, take-append-drop}
 use Rattle.compare.specs.Compare.{sameBytes}
 use Rattle.collector.specs.Answers.{refused, again, waiting, complete, lentOf}
-use Rattle.collection.specs.Record.{soundTo, emptySlots, wellMade, isOf, emptyCollection}
+use Rattle.collection.specs.Record.{emptyCollection}
+use Rattle.held.specs.Held.{soundTo, emptySlots, wellMade, isOf}
 use Rattle.collector.specs.Pieces.{pieceAt}
 use Rattle.body_tests.specs.Refusals.{bodyRefusal, refusalOf}
 use Rattle.collector.specs.Step.{relationOf, accepted, collectStep}

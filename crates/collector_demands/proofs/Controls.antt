@@ -15,7 +15,7 @@ use borrow.Author.Tests.{eqb-true, eq-eqb, ne-eqb}
 use lib.ListN.{length, getD}
 use lib.Dec.{eqb}
 use Rattle.collector.specs.Answers.{Said, refused, again, waiting, complete, said, lentOf}
-use Rattle.collection.specs.Record.{wellMade}
+use Rattle.held.specs.Held.{wellMade}
 use Rattle.body_tests.specs.Refusals.{numberOf, slotOf, pieceOf, bodyRefusal}
 use Rattle.collector.specs.Step.{After, collectStep}
 use Rattle.collection.specs.declared.Collection.{Collection}

@@ -14,7 +14,8 @@ use borrow.Author.Tests.{eqb-true, ne-eqb}
 use lib.ListN.{length, getD}
 use lib.Dec.{eqb}
 use Rattle.collector.specs.Answers.{Said, refused}
-use Rattle.collection.specs.Record.{emptySlots, soundTo, wellMade, isOf, emptyCollection}
+use Rattle.collection.specs.Record.{emptyCollection}
+use Rattle.held.specs.Held.{emptySlots, soundTo, wellMade, isOf}
 use Rattle.body_tests.specs.Refusals.{countOf, numberOf, bodyRefusal, refusalOf}
 use Rattle.collector.specs.Step.{anew, relationOf, baseOf, After, after, accepted, collectStep}
 use Rattle.collection.specs.declared.Collection.{Collection}

@@ -14,7 +14,7 @@ use lib.Seq.{take-suc, take-length}
 use lib.Dec.{eqb}
 use Rattle.wire.specs.Bytes.{pasted}
 use Rattle.collector.specs.Answers.{refused, again, waiting, complete}
-use Rattle.collection.specs.Record.{emptySlots}
+use Rattle.held.specs.Held.{emptySlots}
 use Rattle.collector.specs.Pieces.{joined}
 use Rattle.body_tests.specs.Refusals.{slotOf, pieceOf, refusalOf}
 use Rattle.collector.specs.Step.{relationOf, baseOf, noted, after, finished, accepted, collectStep}

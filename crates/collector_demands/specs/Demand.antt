@@ -21,7 +21,7 @@ use mathlib.Core.List.{List, [], _∷_, _++_}
 use mathlib.Core.Logic.{_⊎_}
 use lib.ListN.{length, getD}
 use Rattle.collector.specs.Answers.{Said, refused, again, waiting, complete, lentOf}
-use Rattle.collection.specs.Record.{wellMade}
+use Rattle.held.specs.Held.{wellMade}
 use Rattle.body_tests.specs.Refusals.{bodyRefusal}
 use Rattle.collector.specs.Step.{After, collectStep}
 use Rattle.collection.specs.declared.Collection.{Collection}

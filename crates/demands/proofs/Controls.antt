@@ -34,7 +34,7 @@ use Rattle.modem_step.specs.declared.Stepped.{Stepped}
 use Rattle.modem_step.specs.Step.{steppedModem}
 use Rattle.modem.proofs.Controls as modem
 use Rattle.collector.specs.Answers.{waiting}
-use Rattle.collection.specs.Record.{wellMade}
+use Rattle.held.specs.Held.{wellMade}
 use Rattle.body_tests.specs.Refusals.{numberOf as pieces}
 use Rattle.collector.specs.Step.{After}
 use Rattle.collection.specs.declared.Collection.{Collection}

@@ -32,7 +32,7 @@ use Rattle.configurations.proofs.configuration_at.Reads as configuration_at
 use Rattle.listed.proofs.is_listed.Reads as is_listed
 use Rattle.named.proofs.lone_number.Reads as lone_number
 use Rattle.collection.proofs.begin.Reads as begin
-use Rattle.collection.proofs.is_of.Reads as is_of
+use Rattle.held.proofs.is_of.Reads as is_of
 use Rattle.body_tests.proofs.refuse.Reads as refuse
 use Rattle.packets.proofs.wrong_length.Reads as wrong_length
 use Rattle.packets.proofs.read_packet.Reads as read_packet

@@ -48,10 +48,11 @@ use Rattle.listed.specs.Listed.{isAmong}
 use Rattle.named.specs.Named.{loneNumber}
 use Rattle.listed.proofs.is_listed.Reads as is_listed
 use Rattle.named.proofs.lone_number.Reads as lone_number
-use Rattle.collection.specs.Record.{isOf, emptyCollection}
+use Rattle.collection.specs.Record.{emptyCollection}
+use Rattle.held.specs.Held.{isOf}
 use Rattle.body_tests.specs.Refusals.{refusalOf}
 use Rattle.collection.proofs.begin.Reads as begin
-use Rattle.collection.proofs.is_of.Reads as is_of
+use Rattle.held.proofs.is_of.Reads as is_of
 use Rattle.body_tests.proofs.refuse.Reads as refuse
 use Rattle.packets.specs.Packets.{wrongLength, packetOf}
 use Rattle.packets.proofs.wrong_length.Reads as wrong_length

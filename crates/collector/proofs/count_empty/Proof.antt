@@ -7,7 +7,7 @@ use borrow.Author.Tests.{eq-eqb, ne-eqb}
 use native.Mathlib.Omega.{arith}
 use native.Mathlib.Numerals.{add-one}
 use lib.ListN.{getD}
-use Rattle.collection.specs.Record.{emptySlots}
+use Rattle.held.specs.Held.{emptySlots}
 use Rattle.collector.proofs.count_empty.Statement.{statement}
 use Rattle.collector.proofs.count_empty.Tie as tie
 

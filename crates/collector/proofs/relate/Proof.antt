@@ -9,10 +9,10 @@ use Prim.Native.Nat.{_-_}
 use denote.Ref.{now}
 use lib.ListN.{getD}
 use Rattle.collector.specs.Pieces.{pieceAt}
-use Rattle.collection.specs.Record.{isOf}
+use Rattle.held.specs.Held.{isOf}
 use Rattle.body_tests.specs.Refusals.{slotOf, countOf, numberOf}
 use Rattle.collector.specs.Step.{relationOf}
-use Rattle.collection.proofs.Laws.{isOf-short}
+use Rattle.held.proofs.Laws.{isOf-short}
 use Rattle.collector.proofs.relate.Statement.{statement}
 use Rattle.collector.proofs.relate.Tie as tie
 

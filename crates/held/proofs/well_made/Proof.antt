@@ -1,11 +1,11 @@
--- `collection::well_made` gives `wellMade`: one answer for each test.
+-- `held::well_made` gives `wellMade`: one answer for each test.
 -- Trusts: nothing.
 use borrow.Author.Needs.{needs}
 use borrow.Author.Tests.{le-leb, lt-leb}
 use mathlib.Core.Path.{sym, _∙_}
-use Rattle.collection.specs.Record.{wellMade}
-use Rattle.collection.proofs.well_made.Statement.{statement}
-use Rattle.collection.proofs.well_made.Tie as tie
+use Rattle.held.specs.Held.{wellMade}
+use Rattle.held.proofs.well_made.Statement.{statement}
+use Rattle.held.proofs.well_made.Tie as tie
 
 -- a number over 16
 returns : tie.Need-returns

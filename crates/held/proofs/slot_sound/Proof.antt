@@ -1,9 +1,9 @@
--- `collection::slot_sound` gives `slotSound`: the flag is tested, then the length.
+-- `held::slot_sound` gives `slotSound`: the flag is tested, then the length.
 -- Trusts: nothing.
 use borrow.Author.Needs.{needs}
 use borrow.Author.Tests.{lt-leb, le-leb}
-use Rattle.collection.proofs.slot_sound.Statement.{statement}
-use Rattle.collection.proofs.slot_sound.Tie as tie
+use Rattle.held.proofs.slot_sound.Statement.{statement}
+use Rattle.held.proofs.slot_sound.Tie as tie
 
 -- a flag that it may not have
 returns : tie.Need-returns

@@ -1,4 +1,4 @@
--- `collection::any_filled` says whether fewer than sixteen slots are empty. The loop's invariant: `some` says whether fewer than `k` of the
+-- `held::any_filled` says whether fewer than sixteen slots are empty. The loop's invariant: `some` says whether fewer than `k` of the
 -- first `k` are; what falls is 16 - k.
 -- Trusts: nothing.
 use mathlib.Core.Path.{_≡_, refl, _∙_}
@@ -7,10 +7,10 @@ use Prim.Native.Nat.{_-_, _≤_}
 use native.Mathlib.Omega.{arith}
 use native.Mathlib.Numerals.{add-one}
 use lib.Dec.{ltb}
-use Rattle.collection.specs.Record.{emptySlots}
-use Rattle.collection.proofs.Laws.{some-one, some-none}
-use Rattle.collection.proofs.any_filled.Statement.{statement}
-use Rattle.collection.proofs.any_filled.Tie as tie
+use Rattle.held.specs.Held.{emptySlots}
+use Rattle.held.proofs.Laws.{some-one, some-none}
+use Rattle.held.proofs.any_filled.Statement.{statement}
+use Rattle.held.proofs.any_filled.Tie as tie
 
 abbrev Inv-loop : tie.InvT-loop
 Inv-loop filled some₀ k₀ some k = (k ≤ 16) × (some ≡ ltb (emptySlots filled k) k)

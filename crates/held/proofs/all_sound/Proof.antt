@@ -1,4 +1,4 @@
--- `collection::all_sound` gives `soundTo`. The loop's invariant: `sound` says whether the first `k` slots are; what falls is 16 - k.
+-- `held::all_sound` gives `soundTo`. The loop's invariant: `sound` says whether the first `k` slots are; what falls is 16 - k.
 -- Trusts: nothing.
 use mathlib.Core.Path.{_≡_, refl, sym, _∙_}
 use mathlib.Core.Bool.{and-false, and-true}
@@ -8,9 +8,9 @@ use native.Mathlib.Omega.{arith}
 use native.Mathlib.Numerals.{add-one}
 use borrow.Author.Needs.{needs}
 use borrow.Author.Tests.{not-true, not-false}
-use Rattle.collection.specs.Record.{soundTo}
-use Rattle.collection.proofs.all_sound.Statement.{statement}
-use Rattle.collection.proofs.all_sound.Tie as tie
+use Rattle.held.specs.Held.{soundTo}
+use Rattle.held.proofs.all_sound.Statement.{statement}
+use Rattle.held.proofs.all_sound.Tie as tie
 
 abbrev Inv-loop : tie.InvT-loop
 Inv-loop n filled lengths sound₀ k₀ sound k = (k ≤ 16) × (sound ≡ soundTo filled lengths n k)

@@ -1,12 +1,12 @@
--- `collection::is_of` gives `isOf`: one answer for each test.
+-- `held::is_of` gives `isOf`: one answer for each test.
 -- Trusts: nothing.
 use borrow.Author.Needs.{needs}
 use borrow.Author.Tests.{ne-eqb, eq-eqb, not-true, not-false}
 use mathlib.Core.Path.{_≡_, sym, _∙_}
 use mathlib.Core.Bool.{true}
-use Rattle.collection.specs.Record.{isOf, wellMade}
-use Rattle.collection.proofs.is_of.Statement.{statement}
-use Rattle.collection.proofs.is_of.Tie as tie
+use Rattle.held.specs.Held.{isOf, wellMade}
+use Rattle.held.proofs.is_of.Statement.{statement}
+use Rattle.held.proofs.is_of.Tie as tie
 
 made : (c : tie.Else1) → wellMade (c .before .before .args .held) ≡ true
 made c = sym (c .before .well-made .ensures) ∙ not-false (c .before .well-made .result) (c .if1 .left)

@@ -1,4 +1,4 @@
--- Laws of a record (specs/Record.antt).
+-- Laws of a record (specs/Held.antt).
 --
 --   mostFlag-div                     the greatest flag of a slot, as a quotient
 --   emptySlots-le, emptySlots-lt     at most n are empty; fewer where one is filled
@@ -19,8 +19,8 @@ use borrow.Author.Tests.{ltb-false, ltb-true, leb-true, ne-eqb, lt-ltb}
 use lib.ListN.{getD}
 use lib.Dec.{ltb, leb, eqb, leb·suc-suc}
 use Rattle.wire.proofs.Laws.{both}
-use Rattle.collection.specs.Record.{isFilled, emptySlots, mostFlag, slotSound, soundTo, wellMade, isOf}
+use Rattle.held.specs.Held.{isFilled, emptySlots, mostFlag, slotSound, soundTo, wellMade, isOf}
 use Rattle.collection.specs.declared.Collection.{Collection}
 
 pub mostFlag-div : (k n : ℕ) → k < 16 → n ≤ 16 → (31 + n - k) / 32 ≡ mostFlag k n
 mostFlag-div k n p q = go (ltb k n) refl where

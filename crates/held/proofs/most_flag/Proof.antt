@@ -1,9 +1,9 @@
--- `collection::most_flag` gives `mostFlag`: the law of that quotient.
+-- `held::most_flag` gives `mostFlag`: the law of that quotient.
 -- Trusts: nothing.
 use native.Mathlib.Omega.{arith}
-use Rattle.collection.proofs.Laws.{mostFlag-div}
-use Rattle.collection.proofs.most_flag.Statement.{statement}
-use Rattle.collection.proofs.most_flag.Tie as tie
+use Rattle.held.proofs.Laws.{mostFlag-div}
+use Rattle.held.proofs.most_flag.Statement.{statement}
+use Rattle.held.proofs.most_flag.Tie as tie
 
 returns : tie.Need-returns
 returns c = mostFlag-div (c .args .k) (c .args .n) (c .pre .0) (c .pre .1)
