@@ -303,7 +303,7 @@ struct dsg_tunnel dsg_prepare(const struct dsg_table *table, uint8_t kind, uint6
                               uint8_t ucid);
 
 /* Judges a frame with what dsg_prepare gave: the verdict is that of dsg_judge with the same table, client and UCID.
- * Lent: the tunnel, the frame. Nothing is written. Definition: prepared/specs/Prepared preparedVerdict; dsg_frames/specs/Frames verdictAs. */
+ * Lent: the tunnel, the frame. Nothing is written. Definition: tunnel_parts/specs/Prepared preparedVerdict; dsg_frames/specs/Frames verdictAs. */
 struct dsg_verdict dsg_judge_prepared(const struct dsg_tunnel *tunnel, const uint8_t *frame, size_t length);
 
 /* ---- the modem ---------------------------------------------------------------------------------------------- */

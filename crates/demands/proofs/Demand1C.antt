@@ -33,11 +33,11 @@ use Rattle.notices.specs.Listing.{Written, listing}
 use Rattle.choice.specs.Choose as choose
 use Rattle.choice.specs.declared.Choice.{Choice}
 use Rattle.choice.specs.declared.Choice.the-variants as choice
-use Rattle.prepared.specs.declared.Tunnel.{Tunnel}
+use Rattle.tunnel_parts.specs.declared.Tunnel.{Tunnel}
 use Rattle.payloads.specs.declared.Verdict as frames
 use Rattle.payloads.specs.declared.Verdict.the-variants as verdict
 use Rattle.tunnel.specs.Judge.{verdictOf}
-use Rattle.prepared.specs.Prepared.{preparedVerdict}
+use Rattle.tunnel_parts.specs.Prepared.{preparedVerdict}
 use Rattle.modem_record.specs.declared.Modem.{Modem}
 use Rattle.dsg_pieces.specs.Bodies.{completeOf, collectedOf, CollectAfter, collectAfter, receivedOf, ReceiveAfter, receiveAfter}
 use Rattle.dsg_tables.specs.Tables.{readStepped, listedAs, listingAs}

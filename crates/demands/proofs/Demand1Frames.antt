@@ -23,13 +23,13 @@ use Rattle.choice.specs.declared.Choice.{Choice}
 use Rattle.choice.specs.declared.Choice.the-variants as choice
 use Rattle.order.specs.Best.{firstPlace}
 use Rattle.choice.specs.Choose.{chosenPlace, choiceOf, ruleAt}
-use Rattle.prepared.specs.declared.Tunnel.{Tunnel}
+use Rattle.tunnel_parts.specs.declared.Tunnel.{Tunnel}
 use Rattle.payloads.specs.declared.Verdict.{Verdict}
 use Rattle.payloads.specs.declared.Verdict.the-variants as verdict
 use Rattle.matching.specs.Entry.{matchesEntry}
 use Rattle.packets.specs.Packets.{wrongLength, addressAt}
 use Rattle.tunnel.specs.Judge.{matchPlace, ruleVerdict, choiceVerdict, verdictOf}
-use Rattle.prepared.specs.Prepared.{entriesOf, preparedVerdict}
+use Rattle.tunnel_parts.specs.Prepared.{entriesOf, preparedVerdict}
 use Rattle.modem_record.specs.declared.Modem.{Modem}
 use Rattle.modem_rows.specs.declared.Event.{Event}
 use Rattle.modem_step.specs.declared.Answer.{Answer}

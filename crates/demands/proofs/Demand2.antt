@@ -40,7 +40,7 @@ use Rattle.choice.proofs.choose_rule.Statement as choose_rule′
 use Rattle.choice.proofs.choose_rule.Met as choose_rule″
 use Rattle.tunnel.specs.Judge.{verdictOf}
 use Rattle.payloads.specs.Payload.{payloadOf}
-use Rattle.prepared.specs.Prepared.{lentTunnel, preparedVerdict}
+use Rattle.tunnel_parts.specs.Prepared.{lentTunnel, preparedVerdict}
 use Rattle.preparing.specs.Preparing.{preparedTunnel}
 use Rattle.tunnel.proofs.judge_frame.Reads as judge_frame
 use Rattle.tunnel.proofs.judge_frame.Statement as judge_frame′
@@ -48,7 +48,7 @@ use Rattle.tunnel.proofs.judge_frame.Met as judge_frame″
 use Rattle.payloads.proofs.payload.Reads as payload
 use Rattle.preparing.proofs.prepare_tunnel.Reads as prepare_tunnel
 use Rattle.prepared.proofs.judge_prepared.Reads as judge_prepared
-use Rattle.prepared.proofs.judge_lent.Reads as judge_lent
+use Rattle.tunnel_parts.proofs.judge_lent.Reads as judge_lent
 use Rattle.modem_record.specs.declared.Modem.{Modem}
 use Rattle.modem_step.specs.declared.Answer.{Answer}
 use Rattle.modem_step.specs.declared.Stepped.{Stepped}

@@ -12,7 +12,7 @@ use denote.Ref.{now}
 use Rattle.demands.proofs.Contract.{Gives, WalkedGives, fixed, answer}
 use Rattle.table.specs.Table.{emptyTable}
 use Rattle.collection.specs.Record.{emptyCollection}
-use Rattle.prepared.specs.Prepared.{preparedVerdict}
+use Rattle.tunnel_parts.specs.Prepared.{preparedVerdict}
 use Rattle.preparing.specs.Preparing.{preparedTunnel}
 use Rattle.modem_record.specs.Record.{emptyModem}
 use Rattle.modem_asked.specs.Asked.{transmits, forwards}

@@ -25,7 +25,7 @@ use Rattle.tunnel.proofs.judge_frame.Reads as judge_frame
 use Rattle.payloads.proofs.payload.Reads as payload
 use Rattle.preparing.proofs.prepare_tunnel.Reads as prepare_tunnel
 use Rattle.prepared.proofs.judge_prepared.Reads as judge_prepared
-use Rattle.prepared.proofs.judge_lent.Reads as judge_lent
+use Rattle.tunnel_parts.proofs.judge_lent.Reads as judge_lent
 use Rattle.modem_record.proofs.empty_modem.Reads as empty_modem
 use Rattle.modem_record.proofs.counts_idle.Reads as counts_idle
 use Rattle.modem_rows.proofs.act.Reads as act

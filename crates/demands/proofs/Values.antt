@@ -7,7 +7,7 @@ use lib.ListN.{length}
 use contract.Lifetimes.{Lfts}
 use denote.Ref.{now}
 use Rattle.demands.proofs.Contract.{Gives, One, only, answer}
-use Rattle.prepared.specs.Prepared.{lentTunnel, preparedVerdict}
+use Rattle.tunnel_parts.specs.Prepared.{lentTunnel, preparedVerdict}
 use Rattle.preparing.specs.Preparing.{preparedTunnel}
 use Rattle.dsg_pieces.specs.Bodies.{CollectAfter, collectAfter, ReceiveAfter, receiveAfter}
 use Rattle.dsg_tables.specs.Tables.{readStepped, ListAfter, listAfter, bodyAfter}

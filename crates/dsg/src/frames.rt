@@ -4,7 +4,7 @@
 // counts where its mark is not 0. The payload is told by its place in the frame: it is not copied.
 ghost use mathlib.Core.Path.{_≡_};
 ghost use lib.ListN.{length};
-ghost use Rattle.prepared.specs.Prepared.{preparedVerdict};
+ghost use Rattle.tunnel_parts.specs.Prepared.{preparedVerdict};
 ghost use Rattle.preparing.specs.Preparing.{preparedTunnel};
 ghost use Rattle.dsg_frames.specs.Frames.{clientOf, ucidOf, choiceFor, verdictAs, verdictFor};
 use dsg_frames::Choice;
@@ -13,8 +13,8 @@ use dsg_frames::choose_value;
 use dsg_frames::judge_parts;
 use dsg_frames::judge_value;
 use dsg_frames::prepare_value;
-use prepared::Tunnel;
 use table::Table;
+use tunnel_parts::Tunnel;
 
 // The rule for a client, in a table that the host lends.
 #[no_mangle]

@@ -5,13 +5,13 @@
 ghost use mathlib.Core.Path.{_≡_};
 ghost use Prim.Native.Nat.{_-_};
 ghost use lib.ListN.{length};
-ghost use Rattle.prepared.specs.Prepared.{lentTunnel, preparedVerdict};
+ghost use Rattle.tunnel_parts.specs.Prepared.{lentTunnel, preparedVerdict};
 ghost use Rattle.preparing.specs.Preparing.{preparedTunnel};
 ghost use Rattle.dsg_frames.specs.Frames.{clientOf, ucidOf, choiceAs, choiceFor, verdictAs, verdictFor};
 use choice::Ucid;
-use prepared::Tunnel;
 use table::Client;
 use table::Table;
+use tunnel_parts::Tunnel;
 
 // What a choice is answered: number 0 and the rule's place in the table, or the refusal.
 #[repr(C)]
@@ -139,7 +139,7 @@ pub fn judge_parts<'a, 'b>(
 ) -> Verdict
     ensures { λ r. ⌜ r ≡ verdictAs (preparedVerdict (lentTunnel mode address count (now (destinations .entry)) (now (sources .entry)) (now (masks .entry)) (now (starts .entry)) (now (ends .entry)) (now (numbers .entry)) (now (ports .entry))) (now (frame .entry))) (length (now (frame .entry))) ⌝ }
 {
-    let verdict = prepared::judge_lent(
+    let verdict = tunnel_parts::judge_lent(
         mode,
         address,
         count,

@@ -7,8 +7,8 @@ use Rattle.table.specs.declared.Client.{Client}
 use Rattle.table.specs.declared.Table.{Table}
 use Rattle.choice.specs.declared.Ucid.{Ucid}
 use Rattle.tunnel.proofs.Controls.{no-one-verdict}
-use Rattle.prepared.specs.declared.Tunnel.{Tunnel}
-use Rattle.prepared.specs.Prepared.{preparedVerdict}
+use Rattle.tunnel_parts.specs.declared.Tunnel.{Tunnel}
+use Rattle.tunnel_parts.specs.Prepared.{preparedVerdict}
 use Rattle.preparing.specs.Preparing.{preparedTunnel}
 use Rattle.preparing.proofs.Same.{prepared-same}
 

@@ -1,4 +1,4 @@
--- What a tunnel that was filled is read as (specs/Preparing.antt, specs/Prepared.antt of prepared).
+-- What a tunnel that was filled is read as (specs/Preparing.antt, specs/Prepared.antt of tunnel_parts).
 --
 --   listFrom-is        a list that agrees with another place by place is that list
 --   entriesOf-tunnelOf the entries of a tunnel that was made of at most 32 entries are those
@@ -17,8 +17,8 @@ use borrow.Author.Tests.{le-ltb}
 use Rattle.table.specs.Table.{limitedTo}
 use Rattle.order.specs.Best.{firstPlace}
 use Rattle.matching.specs.declared.Entry.{Entry}
-use Rattle.prepared.specs.declared.Tunnel.{Tunnel}
-use Rattle.prepared.specs.Prepared.{entryAt, listFrom, entriesOf}
+use Rattle.tunnel_parts.specs.declared.Tunnel.{Tunnel}
+use Rattle.tunnel_parts.specs.Prepared.{entryAt, listFrom, entriesOf}
 use Rattle.preparing.specs.Preparing.{padded, tunnelOf}
 
 abbrev pub zeroEntry : Entry

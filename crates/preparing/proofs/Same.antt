@@ -1,4 +1,4 @@
--- Both ways give one verdict: by the table, and by the tunnel that was prepared from it (specs/Judge.antt of tunnel, specs/Prepared.antt of prepared).
+-- Both ways give one verdict: by the table, and by the tunnel that was prepared from it (specs/Judge.antt of tunnel, specs/Prepared.antt of tunnel_parts).
 --
 --   ruleVerdict-same   one verdict for a chosen rule
 --   prepared-same      one verdict for every table, client, UCID and frame
@@ -23,14 +23,14 @@ use Rattle.choice.specs.Choose.{choiceOf, ruleAt}
 use Rattle.choice.proofs.Laws.{getD-there}
 use Rattle.choice.proofs.Fits.{choiceOf-17}
 use Rattle.matching.specs.declared.Entry.{Entry}
-use Rattle.prepared.specs.declared.Tunnel.{Tunnel}
+use Rattle.tunnel_parts.specs.declared.Tunnel.{Tunnel}
 use Rattle.payloads.specs.declared.Verdict.{Verdict}
 use Rattle.payloads.specs.declared.Verdict.the-variants.{Refused, Other, Forward, Filtered}
 use Rattle.packets.specs.Packets.{wrongLength, addressAt}
 use Rattle.tunnel.specs.Judge.{matchPlace, ruleVerdict, choiceVerdict, verdictOf}
 use Rattle.matching.specs.Entry.{entryOf, matchesEntry}
 use Rattle.preparing.specs.Order.{namedInOrder}
-use Rattle.prepared.specs.Prepared.{entriesOf, preparedVerdict}
+use Rattle.tunnel_parts.specs.Prepared.{entriesOf, preparedVerdict}
 use Rattle.preparing.specs.Preparing.{tunnelOf, ruleTunnel, choiceTunnel, preparedTunnel}
 use Rattle.matching.proofs.Entries.{matchesEntry-of}
 use Rattle.preparing.proofs.Read.{zeroEntry, firstPlace-map, count-tunnelOf, entriesOf-tunnelOf, number-tunnelOf}

@@ -11,9 +11,9 @@ use Rattle.choice.specs.declared.Ucid.{Ucid}
 use Rattle.choice.specs.declared.Choice.the-variants as choice
 use Rattle.choice.specs.Choose.{choiceOf, ruleAt}
 use Rattle.tunnel.specs.Judge.{verdictOf}
-use Rattle.prepared.specs.declared.Tunnel.{Tunnel}
+use Rattle.tunnel_parts.specs.declared.Tunnel.{Tunnel}
 use Rattle.preparing.specs.Order.{namedInOrder}
-use Rattle.prepared.specs.Prepared.{preparedVerdict}
+use Rattle.tunnel_parts.specs.Prepared.{preparedVerdict}
 use Rattle.preparing.specs.Preparing.{ruleTunnel, choiceTunnel, preparedTunnel}
 use Rattle.preparing.proofs.Same.{prepared-same}
 

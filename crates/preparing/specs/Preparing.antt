@@ -18,7 +18,7 @@ use Rattle.choice.specs.declared.Choice.the-variants as choice
 use Rattle.choice.specs.Choose.{choiceOf, ruleAt}
 use Rattle.matching.specs.declared.Entry.{Entry}
 use Rattle.matching.specs.Entry.{entryOf}
-use Rattle.prepared.specs.declared.Tunnel.{Tunnel}
+use Rattle.tunnel_parts.specs.declared.Tunnel.{Tunnel}
 use Rattle.preparing.specs.Order.{namedInOrder}
 
 -- a list of numbers in an array of 32, unused places 0

@@ -17,11 +17,11 @@ use denote.Array.{Array}
 use Prim.Native.Nat.{_+_}
 use mathlib.Core.List.{map}
 use denote.Struct.Laws as LL
-use Rattle.prepared.specs.Prepared.{lentTunnel, preparedVerdict}
+use Rattle.tunnel_parts.specs.Prepared.{lentTunnel, preparedVerdict}
 use Rattle.dsg_frames.specs.Frames.{verdictAs}
-use Rattle.prepared.specs.declared.Tunnel.{Tunnel}
-use Rattle.prepared.proofs.Tunnel as D0
-use Rattle.prepared.proofs.Tunnel.Laws as D0′
+use Rattle.tunnel_parts.specs.declared.Tunnel.{Tunnel}
+use Rattle.tunnel_parts.proofs.Tunnel as D0
+use Rattle.tunnel_parts.proofs.Tunnel.Laws as D0′
 use Rattle.dsg_frames.specs.declared.Verdict.{Verdict}
 use Rattle.dsg_frames.proofs.Verdict as D1
 use Rattle.dsg_frames.proofs.Verdict.Laws as D1′

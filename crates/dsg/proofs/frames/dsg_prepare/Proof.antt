@@ -17,9 +17,9 @@ use Rattle.preparing.specs.Preparing.{preparedTunnel}
 use Rattle.table.specs.declared.Table.{Table}
 use Rattle.table.proofs.Table as D0
 use Rattle.table.proofs.Table.Laws as D0′
-use Rattle.prepared.specs.declared.Tunnel.{Tunnel}
-use Rattle.prepared.proofs.Tunnel as D1
-use Rattle.prepared.proofs.Tunnel.Laws as D1′
+use Rattle.tunnel_parts.specs.declared.Tunnel.{Tunnel}
+use Rattle.tunnel_parts.proofs.Tunnel as D1
+use Rattle.tunnel_parts.proofs.Tunnel.Laws as D1′
 use Rattle.dsg_frames.proofs.prepare_value as prepare-value
 use Rattle.dsg_frames.proofs.prepare_value.Symbol as prepare-value-def
 use Rattle.dsg_frames.proofs.prepare_value.Symbol.{name as #dsg_frames·prepare-value}

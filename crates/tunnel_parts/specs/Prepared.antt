@@ -19,7 +19,7 @@ use Rattle.packets.specs.Packets.{wrongLength, addressAt}
 use Rattle.matching.specs.Entry.{matchesEntry}
 use Rattle.payloads.specs.declared.Verdict.{Verdict}
 use Rattle.payloads.specs.declared.Verdict.the-variants.{Refused, Other, Forward, Filtered}
-use Rattle.prepared.specs.declared.Tunnel.{Tunnel}
+use Rattle.tunnel_parts.specs.declared.Tunnel.{Tunnel}
 
 abbrev pub entryAt : Tunnel → ℕ → Entry
 entryAt tu i = record {

@@ -12,7 +12,7 @@ use native.Mathlib.Numerals.{add-one}
 use native.Mathlib.Omega.{arith}
 use lib.ListN.{length}
 use Rattle.order.specs.Best.{firstPlace}
-use Rattle.prepared.specs.Prepared.{listFrom}
+use Rattle.tunnel_parts.specs.Prepared.{listFrom}
 
 module _ {A : Type 0} (at : ℕ → A) where
   pub length-listFrom : (i n : ℕ) → length (listFrom at i n) ≡ n
