@@ -79,7 +79,7 @@ judge_frame-one κs = only (demand2.judge_frame-gives κs)
 pub payload-one : (κs : Lfts 1) → One (λ x s. now x) (payload.Post κs)
 payload-one κs = only (demand2.payload-gives κs)
 
--- ---- preparing, prepared
+-- ---- preparing, prepared, tunnel_parts
 
 pub prepare_tunnel-one : (κs : Lfts 0) → One answer (prepare_tunnel.Post κs)
 prepare_tunnel-one κs = only (demand2.prepare_tunnel-gives κs)

@@ -30,13 +30,13 @@ use Rattle.rules.proofs.rule_at.Reads as rule_at
 use Rattle.classifiers.proofs.classifier_at.Reads as classifier_at
 use Rattle.configurations.proofs.configuration_at.Reads as configuration_at
 use Rattle.listed.proofs.is_listed.Reads as is_listed
+use Rattle.listed.proofs.names_number.Reads as names_number
 use Rattle.named.proofs.lone_number.Reads as lone_number
 use Rattle.collection.proofs.begin.Reads as begin
 use Rattle.held.proofs.is_of.Reads as is_of
 use Rattle.body_tests.proofs.refuse.Reads as refuse
 use Rattle.packets.proofs.wrong_length.Reads as wrong_length
 use Rattle.packets.proofs.read_packet.Reads as read_packet
-use Rattle.matching.proofs.names_number.Reads as names_number
 use Rattle.matching.proofs.entry_of.Reads as entry_of
 use Rattle.matching.proofs.fits_packet.Reads as fits_packet
 use Rattle.bodies.proofs.list_body.Reads as list_body
@@ -134,6 +134,9 @@ configuration_at-one κs = only (parts.configuration_at-gives κs)
 pub is_listed-one : (κs : Lfts 1) → One answer (is_listed.Post κs)
 is_listed-one κs = only (parts.is_listed-gives κs)
 
+pub names_number-one : (κs : Lfts 0) → One answer (names_number.Post κs)
+names_number-one κs = only (parts.names_number-gives κs)
+
 -- ---- named
 
 pub lone_number-one : (κs : Lfts 1) → One answer (lone_number.Post κs)
@@ -159,9 +162,6 @@ pub read_packet-one : (κs : Lfts 1) → One answer (read_packet.Post κs)
 read_packet-one κs = only (parts.read_packet-gives κs)
 
 -- ---- matching
-
-pub names_number-one : (κs : Lfts 0) → One answer (names_number.Post κs)
-names_number-one κs = only (parts.names_number-gives κs)
 
 pub entry_of-one : (κs : Lfts 0) → One answer (entry_of.Post κs)
 entry_of-one κs = only (parts.entry_of-gives κs)

@@ -44,9 +44,10 @@ use Rattle.clients.proofs.read_clients.Reads as read_clients
 use Rattle.rules.proofs.rule_at.Reads as rule_at
 use Rattle.classifiers.proofs.classifier_at.Reads as classifier_at
 use Rattle.configurations.proofs.configuration_at.Reads as configuration_at
-use Rattle.listed.specs.Listed.{isAmong}
+use Rattle.listed.specs.Listed.{isAmong, namesNumber}
 use Rattle.named.specs.Named.{loneNumber}
 use Rattle.listed.proofs.is_listed.Reads as is_listed
+use Rattle.listed.proofs.names_number.Reads as names_number
 use Rattle.named.proofs.lone_number.Reads as lone_number
 use Rattle.collection.specs.Record.{emptyCollection}
 use Rattle.held.specs.Held.{isOf}
@@ -57,9 +58,7 @@ use Rattle.body_tests.proofs.refuse.Reads as refuse
 use Rattle.packets.specs.Packets.{wrongLength, packetOf}
 use Rattle.packets.proofs.wrong_length.Reads as wrong_length
 use Rattle.packets.proofs.read_packet.Reads as read_packet
-use Rattle.matching.specs.Match.{namesNumber}
 use Rattle.matching.specs.Entry.{entryOf, fitsPacket}
-use Rattle.matching.proofs.names_number.Reads as names_number
 use Rattle.matching.proofs.entry_of.Reads as entry_of
 use Rattle.matching.proofs.fits_packet.Reads as fits_packet
 use Rattle.texts.specs.Text.{field, address}
@@ -163,6 +162,9 @@ configuration_at-gives κs a x s h = h
 pub is_listed-gives : (κs : Lfts 1) → Gives answer (is_listed.Post κs) (λ a. isAmong (a .1 .1 .0) (limitedTo 32 (a .1 .0)) (now (a .0)))
 is_listed-gives κs a x s h = h
 
+pub names_number-gives : (κs : Lfts 0) → Gives answer (names_number.Post κs) (λ a. namesNumber (a .0) (a .1 .0))
+names_number-gives κs a x s h = h
+
 -- ---- named
 
 pub lone_number-gives : (κs : Lfts 1) → Gives answer (lone_number.Post κs) (λ a. loneNumber (now (a .0)) (a .1 .0))
@@ -188,9 +190,6 @@ pub read_packet-gives : (κs : Lfts 1) → Gives answer (read_packet.Post κs) (
 read_packet-gives κs a x s h = h
 
 -- ---- matching
-
-pub names_number-gives : (κs : Lfts 0) → Gives answer (names_number.Post κs) (λ a. namesNumber (a .0) (a .1 .0))
-names_number-gives κs a x s h = h
 
 pub entry_of-gives : (κs : Lfts 0) → Gives answer (entry_of.Post κs) (λ a. entryOf (a .0))
 entry_of-gives κs a x s h = h

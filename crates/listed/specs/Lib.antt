@@ -1,2 +1,2 @@
--- Listed: a number looked up in a list.
+-- Listed: a number looked up in a list or in a rule.
 pub mod Listed

@@ -1,6 +1,5 @@
--- Match: whether a rule names a classifier, and whether a classifier matches a frame (document 01, "Choosing and judging").
+-- Match: whether a classifier matches a frame (document 01, "Choosing and judging").
 --
---   namesNumber rule n     the rule names the classifier number n
 --   portAt frame           the destination port: behind a header of 20 bytes
 --   hasPort frame          protocol 6 or 17, fragment offset 0 (13 bits), length 38 or more
 --   portWithin frame a e   the frame has a port, and a <= port <= e
@@ -17,15 +16,10 @@ use mathlib.Core.List.{List}
 use lib.Bits.{bitAnd}
 use lib.ListN.{length, getD}
 use lib.Dec.{leb, eqb}
-use Rattle.table.specs.declared.Rule.{Rule}
 use Rattle.table.specs.declared.Classifier.{Classifier}
-use Rattle.table.specs.Table.{isPresent, numbersOf}
+use Rattle.table.specs.Table.{isPresent}
 use Rattle.numbers.specs.Numbers.{numberAt}
-use Rattle.order.specs.Best.{anyOf}
 use Rattle.packets.specs.Packets.{isIpv4, sourceAt, destinationAt}
-
-unfoldable pub namesNumber : Rule → ℕ → Bool
-namesNumber rule n = anyOf (eqb n) (numbersOf rule)
 
 unfoldable pub portAt : List ℕ → ℕ
 portAt frame = numberAt 2 frame 36

@@ -1,16 +1,13 @@
-// Whether a classifier matches a packet, and whether a rule names it (document 01, "Choosing and judging").
+// Whether a classifier matches a packet (document 01, "Choosing and judging").
 //
-// Public functions: `entry_of` fills a classifier's absent parts in, `fits_packet` compares it with a packet,
-// `names_number` looks a number up in a rule. All take any input and refuse nothing: a byte beyond the end
-// counts as 0, a count above its limit is read as the limit. The tests stand in the document's order; nothing
-// is written.
+// Public functions: `entry_of` fills a classifier's absent parts in, `fits_packet` compares it with a packet.
+// Both take any input and refuse nothing: a byte beyond the end counts as 0. The tests stand in the document's
+// order; nothing is written.
 use numbers::number2;
 use packets::Packet;
 use table::Classifier;
-use table::Rule;
-use table::limited;
 ghost use mathlib.Core.Path.{_≡_};
-ghost use Rattle.matching.specs.Match.{namesNumber, hasPort, portWithin, presentOr};
+ghost use Rattle.matching.specs.Match.{hasPort, portWithin, presentOr};
 ghost use Rattle.matching.specs.Entry.{portsOf, entryOf, fitsPacket};
 
 // A classifier with its absent parts filled in; `ports` is 0 where it names no port.
@@ -22,24 +19,6 @@ pub struct Entry {
     pub end: u16,
     pub number: u16,
     pub ports: u8,
-}
-
-// Whether the rule names this classifier number.
-pub fn names_number(rule: Rule, number: u16) -> bool
-    ensures { λ r. ⌜ r ≡ namesNumber rule number ⌝ }
-{
-    let n = limited(rule.numbercount, 8);
-    let mut j: usize = 0;
-    while j < 8 {
-        if n <= j {
-            return false;
-        }
-        if number == rule.numbers[j] {
-            return true;
-        }
-        j += 1;
-    }
-    false
 }
 
 // Whether the packet has a port: protocol 6 or 17, no fragment behind the first, 38 bytes or more.

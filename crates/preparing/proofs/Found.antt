@@ -24,7 +24,8 @@ use Rattle.order.proofs.Order.{comesBefore-self, comesBefore-tied}
 use Rattle.order.proofs.Places.{clash, and-yes, bestPlace-le}
 use Rattle.order.proofs.Scan.{bestPlace-nobody}
 use Rattle.order.proofs.Chosen.{mem-at, place-of, firstPlace-is, firstPlace-before, bestPlace-passes, bestPlace-over}
-use Rattle.matching.specs.Match.{matchesFrame, namesNumber}
+use Rattle.listed.specs.Listed.{namesNumber}
+use Rattle.matching.specs.Match.{matchesFrame}
 use Rattle.tunnel.specs.Judge.{matchPlace}
 use Rattle.preparing.specs.Order.{comesFirst, namedInOrder}
 use Rattle.preparing.proofs.Sorted.{Ordered, ordered-at, inOrder-ordered, length-inOrder, of-inOrder, inOrder-of}

@@ -25,7 +25,8 @@ use Rattle.choice.specs.Choose.{choiceOf, ruleAt}
 use Rattle.payloads.specs.declared.Verdict.{Verdict}
 use Rattle.payloads.specs.declared.Verdict.the-variants.{Refused, Other, Forward, Filtered}
 use Rattle.packets.specs.Packets.{wrongLength, addressAt}
-use Rattle.matching.specs.Match.{namesNumber, matchesFrame}
+use Rattle.listed.specs.Listed.{namesNumber}
+use Rattle.matching.specs.Match.{matchesFrame}
 
 unfoldable pub matchPlace : Table → Rule → List ℕ → ℕ
 matchPlace t rule frame =

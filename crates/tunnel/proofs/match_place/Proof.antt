@@ -18,7 +18,8 @@ use Rattle.order.specs.Best.{bestPlace}
 use Rattle.order.proofs.Places.{bestPlace-none}
 use Rattle.order.proofs.Scan.{nothing, scan, scan-more, scan-end, scan-none, scan-some}
 use Rattle.packets.specs.declared.Packet.{Packet}
-use Rattle.matching.specs.Match.{matchesFrame, namesNumber}
+use Rattle.listed.specs.Listed.{namesNumber}
+use Rattle.matching.specs.Match.{matchesFrame}
 use Rattle.tunnel.specs.Judge.{matchPlace}
 use Rattle.packets.specs.Packets.{packetOf}
 use Rattle.matching.specs.Entry.{entryOf, fitsPacket}

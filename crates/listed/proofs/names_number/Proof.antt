@@ -1,4 +1,4 @@
--- `matching::names_number` gives `namesNumber`. The invariant: the numbers from `j` on have the number where all have it.
+-- `listed::names_number` gives `namesNumber`. The invariant: the numbers from `j` on have the number where all have it.
 -- Trusts: nothing.
 use borrow.Author.Needs.{needs}
 use borrow.Author.Tests.{eq-eqb, ne-eqb}
@@ -11,10 +11,10 @@ use lib.ListN.{length, take, drop}
 use Rattle.table.proofs.Laws.{limitedTo-le, length-mapped}
 use Rattle.table.specs.Table.{numbersOf}
 use Rattle.order.specs.Best.{anyOf}
-use Rattle.matching.specs.Match.{namesNumber}
+use Rattle.listed.specs.Listed.{namesNumber}
 use Rattle.order.proofs.Search.{anyOf-found, anyOf-passed, anyOf-end}
-use Rattle.matching.proofs.names_number.Statement.{statement}
-use Rattle.matching.proofs.names_number.Tie as tie
+use Rattle.listed.proofs.names_number.Statement.{statement}
+use Rattle.listed.proofs.names_number.Tie as tie
 
 abbrev Inv-loop : tie.InvT-loop
 Inv-loop number rule n j₀ j =
