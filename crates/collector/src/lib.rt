@@ -110,15 +110,6 @@ fn store(slots: &mut [u8], k: usize, body: &[u8])
     wire::copy_at(slots, at, &body[3..]);
 }
 
-// Copies the `len` bytes of slot `k` into the join buffer from `at` on.
-fn join_one(slots: &[u8], join: &mut [u8], k: usize, len: usize, at: usize)
-    requires { ⌜ k * 1500 + len ≤ length (now slots) ⌝ }
-    ensures { λ _. ⌜ now (join .exit) ≡ pasted (now (join .entry)) at (take len (drop (k * 1500) (now (slots .entry)))) ⌝ }
-{
-    let from = k * body_tests::SLOT_BYTES;
-    wire::copy_at(join, at, &slots[from..from + len]);
-}
-
 // Joins the pieces of the first `n` slots at the start of the join buffer; answers their length.
 fn join_up(slots: &[u8], join: &mut [u8], lengths: [u16; 16], n: usize) -> usize
     requires { ⌜ (n ≤ 16) × (24000 ≤ length (now slots)) ⌝ }
@@ -131,7 +122,8 @@ fn join_up(slots: &[u8], join: &mut [u8], lengths: [u16; 16], n: usize) -> usize
     let mut k = 0;
     while k < n {
         let len = lengths[k] as usize;
-        join_one(slots, join, k, len, at);
+        let from = k * body_tests::SLOT_BYTES;
+        wire::copy_at(join, at, &slots[from..from + len]);
         at += len;
         k += 1;
     }

@@ -1,13 +1,16 @@
 -- `collector::join_up` gives `joined` at the start of the join buffer. The loop's invariant: the pieces of the first `k` slots stand there, `at` is
 -- their length, and the rest is as it was; what falls is n - k.
 -- Trusts: nothing.
-use mathlib.Core.Path.{_≡_, refl, _∙_}
-use mathlib.Core.List.{_++_}
+use mathlib.Core.Path.{_≡_, refl, ap, _∙_}
+use mathlib.Core.List.{List, _++_}
+use borrow.Author.Needs.{needs}
 use Prim.Native.Nat.{ℕ, _+_, _-_, _*_, _≤_}
 use native.Mathlib.Omega.{arith}
 use native.Mathlib.Numerals.{add-one}
 use denote.Ref.{now}
 use lib.ListN.{length, drop, getD}
+use Rattle.wire.specs.Bytes.{pasted}
+use Rattle.wire.proofs.Laws.{part-all}
 use Rattle.collector.specs.Pieces.{joined}
 use Rattle.collector.proofs.Laws.{joined-at, joined-more}
 use Rattle.collector.proofs.join_up.Statement.{statement}
@@ -34,17 +37,18 @@ short c = c .before .before .before .before .pre .1 .1 (c .before .loop .k) (ome
 
 loop-again : tie.Need-loop-again Inv-loop μ-loop
 loop-again c =
-    let turn = c .before .before .before .before in
+    let turn = c .before .before .before .before .before in
     let k = turn .before .loop .k in
     let inv = turn .before .loop .inv in
     let a = turn .before .before .before .before .args in
     let le = short turn in
-    let fits : k * 1500 + Len turn ≤ length (now (a .slots)) = omega arith in (
+    let fits : k * 1500 + Len turn ≤ length (now (a .slots)) = omega arith in
+    let piece = ap (λ (l : List ℕ). pasted (turn .before .loop .join) (turn .before .loop .at) l) (part-all (now (a .slots)) (k * 1500) (Len turn)) in (
       omega arith,
       omega arith,
-      omega (arith, c .before .before .join-one .kept .1 .0),
+      omega (arith, c .before .before .copy-at .kept .0),
       rw (add-one, inv .3) (joined-at (now (a .slots)) (a .t3) (now (a .join)) k fits),
-      rw add-one (c .before .before .join-one .ensures ∙ joined-more (now (a .slots)) (a .t3) (now (a .join)) k fits _ _ (inv .4) (inv .3) (omega arith)),
+      rw add-one (c .before .before .copy-at .ensures ∙ piece ∙ joined-more (now (a .slots)) (a .t3) (now (a .join)) k fits _ _ (inv .4) (inv .3) (omega arith)),
     )
 
 returns : tie.Need-returns Inv-loop μ-loop
@@ -63,8 +67,13 @@ join-up-spec =
     (λ c. omega arith)
     (λ c. omega arith)
     (λ c. omega (arith, short c))
-    (λ c κs. omega (arith, short (c .before)))
-    (λ c. omega (arith, short (c .before .before .before .before)))
+    (λ c. omega arith)
+    (λ c. omega (arith, short (c .before)))
+    (λ c. omega arith)
+    (λ c. omega arith)
+    (λ c. omega (arith, short (c .before)))
+    (λ c κs. search needs)
+    (λ c. omega (arith, short (c .before .before .before .before .before)))
     (λ c. omega arith)
     (λ c. omega arith)
     loop-again
