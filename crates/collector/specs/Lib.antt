@@ -1,4 +1,3 @@
 pub mod Answers
-pub mod Pieces
 pub mod Step
 pub mod Duties

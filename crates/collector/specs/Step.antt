@@ -17,7 +17,7 @@ use Rattle.collection.specs.declared.Collection.{Collection}
 use Rattle.collection.specs.Record.{emptyCollection}
 use Rattle.held.specs.Held.{isFilled, emptySlots, isOf}
 use Rattle.body_tests.specs.Refusals.{countOf, numberOf, slotOf, pieceOf, refusalOf}
-use Rattle.collector.specs.Pieces.{pieceAt, joined}
+use Rattle.joining.specs.Pieces.{pieceAt, joined}
 use Rattle.collector.specs.Answers.{Said, refused, again, waiting, complete}
 
 abbrev pub goesOn : ℕ

@@ -8,13 +8,11 @@
 // is stored, the join buffer only where a message of several pieces is joined.
 ghost use mathlib.Core.Path.{_≡_};
 ghost use Prim.Native.Nat.{ℕ, _-_, _*_, _+_, _≤_, _<_};
-ghost use mathlib.Core.List.{_++_};
 ghost use lib.ListN.{length, take, drop, getD};
 ghost use Rattle.wire.specs.Bytes.{pasted};
 ghost use Rattle.compare.specs.Compare.{sameBytes};
 ghost use Rattle.held.specs.Held.{emptySlots};
 ghost use Rattle.body_tests.specs.Refusals.{numberOf, pieceOf, Fits};
-ghost use Rattle.collector.specs.Pieces.{joined};
 ghost use Rattle.collector.specs.Answers.{said};
 ghost use Rattle.collector.specs.Duties.{storedStep};
 ghost use Rattle.collector.specs.Step.{relationOf, baseOf, finished, collectStep};
@@ -110,30 +108,9 @@ fn store(slots: &mut [u8], k: usize, body: &[u8])
     wire::copy_at(slots, at, &body[3..]);
 }
 
-// Joins the pieces of the first `n` slots at the start of the join buffer; answers their length.
-fn join_up(slots: &[u8], join: &mut [u8], lengths: [u16; 16], n: usize) -> usize
-    requires { ⌜ (n ≤ 16) × (24000 ≤ length (now slots)) ⌝ }
-    requires { ⌜ 24000 ≤ length (now join) ⌝ }
-    requires { ⌜ ((k : ℕ) → k < 16 → getD lengths k 0 ≤ 1497) ⌝ }
-    ensures { λ r. ⌜ r ≡ length (joined (now (slots .entry)) lengths n) ⌝ }
-    ensures { λ r. ⌜ now (join .exit) ≡ joined (now (slots .entry)) lengths n ++ drop r (now (join .entry)) ⌝ }
-{
-    let mut at = 0;
-    let mut k = 0;
-    while k < n {
-        let len = lengths[k] as usize;
-        let from = k * body_tests::SLOT_BYTES;
-        wire::copy_at(join, at, &slots[from..from + len]);
-        at += len;
-        k += 1;
-    }
-    at
-}
-
 // The answer to a piece of `len` bytes that is stored and noted; a message of several pieces is joined.
 fn finish(next: Collection, slots: &[u8], join: &mut [u8], len: usize) -> Answer
-    requires { ⌜ (next .number ≤ 16) × (24000 ≤ length (now slots)) ⌝ }
-    requires { ⌜ 24000 ≤ length (now join) ⌝ }
+    requires { ⌜ (next .number ≤ 16) × (24000 ≤ length (now join)) ⌝ }
     requires { ⌜ ((k : ℕ) → k < 16 → getD (next .lengths) k 0 ≤ 1497) ⌝ }
     ensures { λ r. ⌜ record { answer = said r; held = next; slots = now (slots .entry); join = now (join .exit) } ≡ finished next (now (slots .entry)) (now (join .entry)) len ⌝ }
 {
@@ -147,7 +124,7 @@ fn finish(next: Collection, slots: &[u8], join: &mut [u8], len: usize) -> Answer
         return Answer::Complete(len);
     }
     let lengths = next.lengths;
-    let size = join_up(slots, join, lengths, n);
+    let size = joining::join_pieces(slots, join, lengths, n);
     Answer::Complete(size)
 }
 

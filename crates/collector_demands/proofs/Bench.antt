@@ -18,7 +18,7 @@ use Rattle.compare.specs.Compare.{sameBytes}
 use Rattle.collector.specs.Answers.{refused, again, waiting, complete, lentOf}
 use Rattle.collection.specs.Record.{emptyCollection}
 use Rattle.held.specs.Held.{soundTo, emptySlots, wellMade, isOf}
-use Rattle.collector.specs.Pieces.{pieceAt}
+use Rattle.joining.specs.Pieces.{pieceAt}
 use Rattle.body_tests.specs.Refusals.{bodyRefusal, refusalOf}
 use Rattle.collector.specs.Step.{relationOf, accepted, collectStep}
 use Rattle.collection.specs.declared.Collection.{Collection}

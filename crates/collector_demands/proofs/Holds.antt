@@ -20,12 +20,12 @@ use Rattle.wire.specs.Bytes.{pasted}
 use Rattle.wire.proofs.Laws.{clash, length-pasted}
 use Rattle.collection.specs.Record.{emptyCollection}
 use Rattle.held.specs.Held.{isFilled, emptySlots, slotSound, soundTo, wellMade}
-use Rattle.collector.specs.Pieces.{pieceAt, joined}
+use Rattle.joining.specs.Pieces.{pieceAt, joined}
 use Rattle.body_tests.specs.Refusals.{numberOf, slotOf, pieceOf, Fits}
 use Rattle.collector.specs.Step.{noted}
 use Rattle.collection.specs.declared.Collection.{Collection}
 use Rattle.held.proofs.Laws.{emptySlots-lt, soundTo-all}
-use Rattle.collector.proofs.Laws.{pieceAt-same, pieceAt-other}
+use Rattle.joining.proofs.Laws.{pieceAt-same, pieceAt-other}
 use Rattle.collector_demands.specs.Runs.{Slot, empty, full, isFull, bytesOf, lookup, missing, message, SlotHas}
 
 -- a slot with what the run has; filled, it is one of the n

@@ -15,11 +15,11 @@ use lib.Dec.{eqb}
 use Rattle.wire.specs.Bytes.{pasted}
 use Rattle.collector.specs.Answers.{refused, again, waiting, complete}
 use Rattle.held.specs.Held.{emptySlots}
-use Rattle.collector.specs.Pieces.{joined}
+use Rattle.joining.specs.Pieces.{joined}
 use Rattle.body_tests.specs.Refusals.{slotOf, pieceOf, refusalOf}
 use Rattle.collector.specs.Step.{relationOf, baseOf, noted, after, finished, accepted, collectStep}
 use Rattle.collection.specs.declared.Collection.{Collection}
-use Rattle.collector.proofs.Laws.{length-joined}
+use Rattle.joining.proofs.Laws.{length-joined}
 use Rattle.body_tests.proofs.Laws.{fits-of, refusalOf-room}
 use Rattle.collector.proofs.LawsStep.{baseOf-number, noted-short}
 use Rattle.collector_demands.specs.Demand.{concat, Cutting}

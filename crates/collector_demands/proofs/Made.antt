@@ -16,11 +16,11 @@ use lib.ListN.{length, getD, take, drop}
 use lib.Dec.{eqb, ltb, leb}
 use Rattle.wire.proofs.Laws.{both, clash}
 use Rattle.held.specs.Held.{isFilled, emptySlots, slotSound, soundTo, wellMade}
-use Rattle.collector.specs.Pieces.{pieceAt}
+use Rattle.joining.specs.Pieces.{pieceAt}
 use Rattle.body_tests.specs.Refusals.{countOf, numberOf, slotOf, pieceOf, bodyRefusal}
 use Rattle.collection.specs.declared.Collection.{Collection}
 use Rattle.held.proofs.Laws.{soundTo-at}
-use Rattle.collector.proofs.Laws.{length-pieceAt, length-pieceAt-le}
+use Rattle.joining.proofs.Laws.{length-pieceAt, length-pieceAt-le}
 use Rattle.collector_demands.specs.Runs.{Slot, empty, full, isFull, bytesOf, accepts, lookup, takes, continues, runOf, SlotHas, bodyIn, bodiesTo, standsFor, Sized}
 use Rattle.collector_demands.proofs.Holds.{Has, Slots}
 use Rattle.collector_demands.proofs.Refine.{Rep, idle, busy}

@@ -19,7 +19,7 @@ use Rattle.compare.proofs.Laws.{sameBytes-true}
 use Rattle.collector.specs.Answers.{Said, refused, again, waiting, complete, lentOf}
 use Rattle.collection.specs.Record.{emptyCollection}
 use Rattle.held.specs.Held.{isFilled, emptySlots, wellMade, isOf}
-use Rattle.collector.specs.Pieces.{pieceAt, joined}
+use Rattle.joining.specs.Pieces.{pieceAt, joined}
 use Rattle.body_tests.specs.Refusals.{countOf, numberOf, slotOf, pieceOf, bodyRefusal, refusalOf, Fits}
 use Rattle.collector.specs.Step.{goesOn, repeats, anew, relationOf, baseOf, noted, After, after, finished, accepted, collectStep}
 use Rattle.collection.specs.declared.Collection.{Collection}

@@ -21,7 +21,7 @@ use lib.Dec.{eqb}
 use Rattle.compare.specs.Compare.{sameBytes}
 use Rattle.collector.specs.Answers.{Said, refused, again, waiting, complete}
 use Rattle.held.specs.Held.{isFilled, wellMade}
-use Rattle.collector.specs.Pieces.{pieceAt}
+use Rattle.joining.specs.Pieces.{pieceAt}
 use Rattle.body_tests.specs.Refusals.{countOf, numberOf, slotOf, pieceOf, bodyRefusal}
 use Rattle.collection.specs.declared.Collection.{Collection}
 

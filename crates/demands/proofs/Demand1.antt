@@ -24,7 +24,7 @@ use lib.Dec.{eqb, ltb}
 use Rattle.wire.specs.Bytes.{pasted}
 use Rattle.collector.specs.Answers.{Said, refused, again, waiting, complete, lentOf}
 use Rattle.held.specs.Held.{emptySlots}
-use Rattle.collector.specs.Pieces.{joined}
+use Rattle.joining.specs.Pieces.{joined}
 use Rattle.body_tests.specs.Refusals.{numberOf, slotOf, pieceOf, bodyRefusal, refusalOf}
 use Rattle.collector.specs.Step.{relationOf, repeats, baseOf, noted, After, after, finished, accepted, collectStep}
 use Rattle.lending.specs.Lent.{LentAfter, lentStep}

@@ -6,6 +6,7 @@ use contract.Lifetimes.{Lfts}
 use denote.Ref.{now}
 use Rattle.demands.proofs.Contract.{One, only, answer}
 use Rattle.demands.proofs.Parts as parts
+use Rattle.joining.specs.Pieces.{JoinAfter}
 use Rattle.texts.specs.Put.{Put}
 use Rattle.notices.specs.Listing.{Listing, written}
 use Rattle.numbers.proofs.number1.Reads as number1
@@ -34,6 +35,7 @@ use Rattle.listed.proofs.names_number.Reads as names_number
 use Rattle.named.proofs.lone_number.Reads as lone_number
 use Rattle.collection.proofs.begin.Reads as begin
 use Rattle.held.proofs.is_of.Reads as is_of
+use Rattle.joining.proofs.join_pieces.Reads as join_pieces
 use Rattle.body_tests.proofs.refuse.Reads as refuse
 use Rattle.packets.proofs.wrong_length.Reads as wrong_length
 use Rattle.packets.proofs.read_packet.Reads as read_packet
@@ -149,6 +151,9 @@ begin-one κs = only (parts.begin-gives κs)
 
 pub is_of-one : (κs : Lfts 0) → One answer (is_of.Post κs)
 is_of-one κs = only (parts.is_of-gives κs)
+
+pub join_pieces-one : (κs : Lfts 2) → One {L = JoinAfter} (λ x s. record { size = x; join = now (s .1 .0) }) (join_pieces.Post κs)
+join_pieces-one κs = only (parts.join_pieces-gives κs)
 
 pub refuse-one : (κs : Lfts 1) → One answer (refuse.Post κs)
 refuse-one κs = only (parts.refuse-gives κs)

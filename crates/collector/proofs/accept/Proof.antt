@@ -16,8 +16,8 @@ use Rattle.collector.proofs.accept.Tie as tie
 finish-requires : tie.Need-finish-requires
 finish-requires c κs =
     let e = c .before .before .before .before .before .before .before .before .before .before in (
-      (omega (arith, e .pre), omega (arith, c .before .before .before .before .store .kept .0, e .pre)),
-      (e .pre .1 .0 .1, λ k p. set-bound (e .args .from .lengths) _ (length (now (e .args .body)) - 3) k 1497 (e .pre .1 .1 k p) (omega (arith, e .pre))),
+      (omega (arith, e .pre), e .pre .1 .0 .1),
+      (λ k p. set-bound (e .args .from .lengths) _ (length (now (e .args .body)) - 3) k 1497 (e .pre .1 .1 k p) (omega (arith, e .pre))),
     )
 
 returns : tie.Need-returns

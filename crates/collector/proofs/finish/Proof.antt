@@ -2,6 +2,7 @@
 -- Trusts: nothing.
 use mathlib.Core.Path.{refl}
 use borrow.Author.Needs.{needs}
+use Rattle.joining.proofs.Laws.{joinStep-room}
 use Rattle.collector.proofs.LawsStep.{step-waiting, step-alone, step-joined}
 use Rattle.collector.proofs.finish.Statement.{statement}
 use Rattle.collector.proofs.finish.Tie as tie
@@ -18,7 +19,9 @@ returns-2 c = step-alone _ _ _ _ _ refl _ (c .before .before .count-empty .ensur
 returns-3 : tie.Need-returns-3
 returns-3 c =
     let n = c .before .before .before .before .before in
-    step-joined _ _ _ _ _ refl _ (n .before .before .count-empty .ensures) (n .before .if1 .left) (n .if2 .left) _ (c .before .before .join-up .ensures .0) _ (c .before .before .join-up .ensures .1)
+    let e = n .before .before .before .before .before .before .before in
+    let j = joinStep-room _ _ _ _ _ _ (c .before .before .join-pieces .ensures) (e .pre .0 .0) (e .pre .0 .1) (e .pre .1) in
+    step-joined _ _ _ _ _ refl _ (n .before .before .count-empty .ensures) (n .before .if1 .left) (n .if2 .left) _ (j .0) _ (j .1)
 
 pub finish-spec : {M : Type 1} → statement M
 finish-spec =

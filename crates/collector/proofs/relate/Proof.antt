@@ -8,7 +8,7 @@ use native.Mathlib.Omega.{arith}
 use Prim.Native.Nat.{_-_}
 use denote.Ref.{now}
 use lib.ListN.{getD}
-use Rattle.collector.specs.Pieces.{pieceAt}
+use Rattle.joining.specs.Pieces.{pieceAt}
 use Rattle.held.specs.Held.{isOf}
 use Rattle.body_tests.specs.Refusals.{slotOf, countOf, numberOf}
 use Rattle.collector.specs.Step.{relationOf}
