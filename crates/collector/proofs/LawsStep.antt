@@ -1,6 +1,5 @@
 -- Laws of one step (specs/Step.antt): what the piece is added to, and one law for each answer of `collect`.
 --
---   relationOf-goesOn      where the body goes on, the record is well made and its number the body's
 --   baseOf-number, baseOf-short, from-number, from-short    the record that the piece is noted in
 --   set-bound              a length more that keeps the bound
 --   step-refused, step-again, step-stored, step-waiting, step-alone, step-joined    each answer of the code, as the step has it
@@ -11,17 +10,17 @@ use mathlib.Core.Bool.{Bool, true, false, cond}
 use mathlib.Core.List.{List, [], _∷_, _++_}
 use native.Mathlib.Omega.{arith}
 use borrow.Author.Tests.{eqb-true, eq-eqb, ne-eqb}
-use lib.ListN.{length, getD, set, getD-replicate, drop}
+use lib.ListN.{length, getD, set, getD-replicate, drop, length-drop}
 use lib.Dec.{eqb}
-use Rattle.compare.specs.Compare.{sameBytes}
-use Rattle.wire.proofs.Laws.{both}
 use Rattle.collector.specs.Answers.{refused, again, waiting, complete}
 use Rattle.collection.specs.Record.{emptyCollection}
-use Rattle.held.specs.Held.{isFilled, emptySlots, wellMade, isOf}
-use Rattle.joining.specs.Pieces.{pieceAt, joined}
+use Rattle.held.specs.Held.{emptySlots}
+use Rattle.joining.specs.Pieces.{joined}
+use Rattle.relation.specs.Relation.{repeats}
+use Rattle.relation.proofs.Laws.{relationTo-goesOn}
 use Rattle.body_tests.specs.Refusals.{countOf, numberOf, slotOf, pieceOf, refusalOf}
-use Rattle.collector.specs.Step.{goesOn, repeats, anew, relationOf, baseOf, noted, After, after, finished, accepted, collectStep}
-use Rattle.collector.specs.Duties.{storedStep}
+use Rattle.collector.specs.Step.{relationOf, baseOf, noted, After, after, finished, accepted, collectStep}
+use Rattle.collector.specs.Duties.{begun, storedStep}
 use Rattle.collection.specs.declared.Collection.{Collection}
 use Rattle.held.proofs.Laws.{wellMade-short}
 
@@ -35,16 +34,6 @@ set-bound (x ∷ xs) zero a (suc j) b h k = h
 set-bound (x ∷ xs) (suc i) a zero b h k = h
 set-bound (x ∷ xs) (suc i) a (suc j) b h k = set-bound xs i a j b h k
 
-goes-on : (a b c : Bool) → cond a (cond b (cond c repeats anew) goesOn) anew ≡ goesOn → a ≡ true
-goes-on true b c h = refl
-goes-on false b c h = absurd (omega arith)
-
-pub relationOf-goesOn : (r : Collection) (slots body : List ℕ) → relationOf r slots body ≡ goesOn → (wellMade r ≡ true) × (r .number ≡ numberOf body)
-unfolding relationOf isOf
-relationOf-goesOn r slots body h =
-    let t = both (wellMade r) _ (goes-on _ (isFilled (getD (r .filled) (slotOf body) 0)) (sameBytes (pieceAt slots (r .lengths) (slotOf body)) (pieceOf body)) h) in
-    (t .0, eqb-true _ _ (both (eqb (r .count) (countOf body)) _ (t .1) .1))
-
 module _ (r : Collection) (slots body : List ℕ) where
   abbrev base : Collection
   base = baseOf (relationOf r slots body) r body
@@ -53,14 +42,14 @@ module _ (r : Collection) (slots body : List ℕ) where
   unfolding baseOf
   baseOf-number = go (eqb (relationOf r slots body) 0) refl where
     go : (t : Bool) → eqb (relationOf r slots body) 0 ≡ t → cond t r (emptyCollection (countOf body) (numberOf body)) .number ≡ numberOf body
-    go true e = relationOf-goesOn r slots body (eqb-true _ _ e) .1
+    go true e = relationTo-goesOn r slots _ _ _ _ (eqb-true _ _ e) .1
     go false e = refl
 
   pub baseOf-short : (k : ℕ) → k < 16 → getD (base .lengths) k 0 ≤ 1497
   unfolding baseOf
   baseOf-short k p = go (eqb (relationOf r slots body) 0) refl where
     go : (t : Bool) → eqb (relationOf r slots body) 0 ≡ t → getD (cond t r (emptyCollection (countOf body) (numberOf body)) .lengths) k 0 ≤ 1497
-    go true e = wellMade-short r (relationOf-goesOn r slots body (eqb-true _ _ e) .0) k p
+    go true e = wellMade-short r (relationTo-goesOn r slots _ _ _ _ (eqb-true _ _ e) .0) k p
     go false e = omega (arith, getD-replicate {A = ℕ} 16 k 0 0 p)
 
   pub noted-short : (k : ℕ) → length body ≤ 1500 → k < 16 → getD (noted base (slotOf body) (length body - 3) .lengths) k 0 ≤ 1497
@@ -78,16 +67,18 @@ module _ (r : Collection) (slots join body : List ℕ) (ok : refusalOf (length s
   unfolding collectStep accepted
   step-again how e h = simp (ok, ← e, h)
 
-  module _ (how : ℕ) (e : how ≡ relationOf r slots body) (ne : how ≡ repeats → ⊥) (from : Collection) (f : from ≡ baseOf how r body) where
+  module _ (how : ℕ) (e : how ≡ relationOf r slots body) (ne : how ≡ repeats → ⊥) (from : Collection) (f : from ≡ begun how r (countOf body) (numberOf body)) where
     pub from-number : from .number ≡ numberOf body
+    unfolding baseOf
     from-number = rw (f, e) (baseOf-number r slots body)
 
     pub from-short : (k : ℕ) → k < 16 → getD (from .lengths) k 0 ≤ 1497
+    unfolding baseOf
     from-short k p = rw (f, e) (baseOf-short r slots body k p)
 
-    pub step-stored : storedStep from slots join body ≡ collectStep r slots join body
-    unfolding collectStep accepted
-    step-stored = simp (ok, ← e, ne-eqb how 1 ne, ← f)
+    pub step-stored : storedStep from slots join (slotOf body) (pieceOf body) ≡ collectStep r slots join body
+    unfolding collectStep accepted baseOf
+    step-stored = simp (ok, ← e, ne-eqb how 1 ne, ← f, length-drop)
 
 -- the piece is stored and noted, and m slots are empty
 module _ (next : Collection) (stored join : List ℕ) (len : ℕ) (R : After) (e : finished next stored join len ≡ R) (m : ℕ) (a : m ≡ emptySlots (next .filled) (next .number)) where

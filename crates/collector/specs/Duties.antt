@@ -1,16 +1,22 @@
 -- Duties: what is left of a step inside the collector. No promise of a public function cites it.
 --
---   storedStep r slots join body    what is left of a step when the record r that the piece is noted in is known
+--   begun how r count number            the record that the piece is noted in: the held one where it goes on, else an empty one
+--   storedStep r slots join k piece     what is left of a step when that record is known
 --
 -- Trusts: nothing.
-use Prim.Native.Nat.{ℕ, _*_, _-_}
+use Prim.Native.Nat.{ℕ, _*_}
+use mathlib.Core.Bool.{cond}
 use mathlib.Core.List.{List}
 use lib.ListN.{length}
+use lib.Dec.{eqb}
 use Rattle.wire.specs.Bytes.{pasted}
 use Rattle.collection.specs.declared.Collection.{Collection}
-use Rattle.body_tests.specs.Refusals.{slotOf, pieceOf}
+use Rattle.collection.specs.Record.{emptyCollection}
+use Rattle.relation.specs.Relation.{goesOn}
 use Rattle.collector.specs.Step.{noted, After, finished}
 
-abbrev pub storedStep : Collection → List ℕ → List ℕ → List ℕ → After
-storedStep r slots join body =
-    finished (noted r (slotOf body) (length body - 3)) (pasted slots (slotOf body * 1500) (pieceOf body)) join (length body - 3)
+abbrev pub begun : ℕ → Collection → ℕ → ℕ → Collection
+begun how r count number = cond (eqb how goesOn) r (emptyCollection count number)
+
+abbrev pub storedStep : Collection → List ℕ → List ℕ → ℕ → List ℕ → After
+storedStep r slots join k piece = finished (noted r k (length piece)) (pasted slots (k * 1500) piece) join (length piece)

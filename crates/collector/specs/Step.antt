@@ -1,39 +1,27 @@
 -- Step: what one body does to a collection (document 01, "Collecting pieces" and refusals 1 to 5).
 --
---   relationOf r slots body    how the body stands to what is held: goesOn, repeats, or begins anew
+--   relationOf r slots body    how the body's piece stands to what is held
 --   collectStep r slots join body   the answer, the record and both buffers after the call
 --
--- Any record and any lengths have a meaning: what a record holds is said in specs/ of held, and what is refused in specs/ of body_tests.
+-- Any record and any lengths have a meaning: what a record holds is said in specs/ of held, how a piece stands to that in specs/ of relation, and what is refused in specs/ of body_tests.
 -- Tested by: the bench example in proofs/Bench.antt of collector_demands; runs of bodies against the other program in host/.
 -- Trusts: nothing.
 use Prim.Native.Nat.{ℕ, _*_, _-_}
 use mathlib.Core.Bool.{cond}
 use mathlib.Core.List.{List, _++_}
-use lib.ListN.{length, getD, drop, set}
+use lib.ListN.{length, drop, set}
 use lib.Dec.{eqb}
 use Rattle.wire.specs.Bytes.{pasted}
-use Rattle.compare.specs.Compare.{sameBytes}
 use Rattle.collection.specs.declared.Collection.{Collection}
 use Rattle.collection.specs.Record.{emptyCollection}
-use Rattle.held.specs.Held.{isFilled, emptySlots, isOf}
+use Rattle.held.specs.Held.{emptySlots}
 use Rattle.body_tests.specs.Refusals.{countOf, numberOf, slotOf, pieceOf, refusalOf}
-use Rattle.joining.specs.Pieces.{pieceAt, joined}
+use Rattle.joining.specs.Pieces.{joined}
+use Rattle.relation.specs.Relation.{goesOn, repeats, relationTo}
 use Rattle.collector.specs.Answers.{Said, refused, again, waiting, complete}
 
-abbrev pub goesOn : ℕ
-goesOn = 0
-
-abbrev pub repeats : ℕ
-repeats = 1
-
-abbrev pub anew : ℕ
-anew = 2
-
-unfoldable pub relationOf : Collection → List ℕ → List ℕ → ℕ
-relationOf r slots body =
-    cond (isOf r (countOf body) (numberOf body))
-    (cond (isFilled (getD (r .filled) (slotOf body) 0))
-    (cond (sameBytes (pieceAt slots (r .lengths) (slotOf body)) (pieceOf body)) repeats anew) goesOn) anew
+abbrev pub relationOf : Collection → List ℕ → List ℕ → ℕ
+relationOf r slots body = relationTo r slots (countOf body) (numberOf body) (slotOf body) (pieceOf body)
 
 -- the record that the piece is noted in, and with it noted
 unfoldable pub baseOf : ℕ → Collection → List ℕ → Collection

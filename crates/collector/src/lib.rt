@@ -7,23 +7,13 @@
 // and after a refusal record and buffers are as they were. The slot buffer changes only where a piece
 // is stored, the join buffer only where a message of several pieces is joined.
 ghost use mathlib.Core.Path.{_≡_};
-ghost use Prim.Native.Nat.{ℕ, _-_, _*_, _+_, _≤_, _<_};
-ghost use lib.ListN.{length, take, drop, getD};
-ghost use Rattle.wire.specs.Bytes.{pasted};
-ghost use Rattle.compare.specs.Compare.{sameBytes};
+ghost use Prim.Native.Nat.{ℕ, _≤_, _<_};
+ghost use lib.ListN.{length, getD};
 ghost use Rattle.held.specs.Held.{emptySlots};
-ghost use Rattle.body_tests.specs.Refusals.{numberOf, pieceOf, Fits};
 ghost use Rattle.collector.specs.Answers.{said};
-ghost use Rattle.collector.specs.Duties.{storedStep};
-ghost use Rattle.collector.specs.Step.{relationOf, baseOf, finished, collectStep};
+ghost use Rattle.collector.specs.Duties.{begun, storedStep};
+ghost use Rattle.collector.specs.Step.{finished, collectStep};
 use collection::Collection;
-
-// How a body stands to what is held.
-const GOES_ON: u8 = 0;
-
-const REPEATS: u8 = 1;
-
-const ANEW: u8 = 2;
 
 // What a body is answered.
 pub enum Answer {
@@ -59,53 +49,14 @@ fn count_empty(filled: [u8; 16], n: usize) -> u8
     empty
 }
 
-// Whether slot `k`, with `len` bytes, has the body's piece.
-fn has_piece(slots: &[u8], k: usize, len: usize, body: &[u8]) -> bool
-    requires { ⌜ (3 ≤ length (now body)) × (k * 1500 + len ≤ length (now slots)) ⌝ }
-    ensures { λ r. ⌜ r ≡ sameBytes (take len (drop (k * 1500) (now (slots .entry)))) (pieceOf (now (body .entry))) ⌝ }
-{
-    let at = k * body_tests::SLOT_BYTES;
-    compare::same_bytes(&slots[at..at + len], &body[3..])
-}
-
-// How the body stands to what is held.
-fn relate(held: Collection, slots: &[u8], body: &[u8]) -> u8
-    requires { ⌜ (24000 ≤ length (now slots)) × Fits (now body) ⌝ }
-    ensures { λ r. ⌜ r ≡ relationOf held (now (slots .entry)) (now (body .entry)) ⌝ }
-{
-    if !held::is_of(held, body[0], body[1]) {
-        return ANEW;
-    }
-    let s = body[2] as usize;
-    let k = s - 1;
-    if held.filled[k] != 1 {
-        return GOES_ON;
-    }
-    let len = held.lengths[k] as usize;
-    if has_piece(slots, k, len, body) {
-        return REPEATS;
-    }
-    ANEW
-}
-
 // The record that the piece is noted in.
-fn base(how: u8, held: Collection, body: &[u8]) -> Collection
-    requires { ⌜ 2 ≤ length (now body) ⌝ }
-    ensures { λ r. ⌜ r ≡ baseOf how held (now (body .entry)) ⌝ }
+fn base(how: u8, held: Collection, count: u8, number: u8) -> Collection
+    ensures { λ r. ⌜ r ≡ begun how held count number ⌝ }
 {
-    if how == GOES_ON {
+    if how == relation::GOES_ON {
         return held;
     }
-    collection::begin(body[0], body[1])
-}
-
-// Stores the body's piece in slot `k`.
-fn store(slots: &mut [u8], k: usize, body: &[u8])
-    requires { ⌜ (3 ≤ length (now body)) × (k * 1500 + (length (now body) - 3) ≤ length (now slots)) ⌝ }
-    ensures { λ _. ⌜ now (slots .exit) ≡ pasted (now (slots .entry)) (k * 1500) (pieceOf (now (body .entry))) ⌝ }
-{
-    let at = k * body_tests::SLOT_BYTES;
-    wire::copy_at(slots, at, &body[3..]);
+    collection::begin(count, number)
 }
 
 // The answer to a piece of `len` bytes that is stored and noted; a message of several pieces is joined.
@@ -128,20 +79,19 @@ fn finish(next: Collection, slots: &[u8], join: &mut [u8], len: usize) -> Answer
     Answer::Complete(size)
 }
 
-// Notes the body's piece in `from` and stores it; the answer, and the record after it.
-fn accept(from: Collection, slots: &mut [u8], join: &mut [u8], body: &[u8]) -> Outcome
-    requires { ⌜ Fits (now body) × (from .number ≡ numberOf (now body)) ⌝ }
-    requires { ⌜ (24000 ≤ length (now slots)) × (24000 ≤ length (now join)) ⌝ }
+// Notes the piece in `from` and stores it in slot `k`; the answer, and the record after it.
+fn accept(from: Collection, slots: &mut [u8], join: &mut [u8], k: usize, piece: &[u8]) -> Outcome
+    requires { ⌜ (k < 16) × (length (now piece) ≤ 1497) ⌝ }
+    requires { ⌜ (from .number ≤ 16) × (24000 ≤ length (now join)) ⌝ }
     requires { ⌜ ((k : ℕ) → k < 16 → getD (from .lengths) k 0 ≤ 1497) ⌝ }
-    ensures { λ r. ⌜ record { answer = said (r .answer); held = r .held; slots = now (slots .exit); join = now (join .exit) } ≡ storedStep from (now (slots .entry)) (now (join .entry)) (now (body .entry)) ⌝ }
+    ensures { λ r. ⌜ record { answer = said (r .answer); held = r .held; slots = now (slots .exit); join = now (join .exit) } ≡ storedStep from (now (slots .entry)) (now (join .entry)) k (now (piece .entry)) ⌝ }
 {
-    let s = body[2] as usize;
-    let k = s - 1;
-    let len = body.len() - 3;
+    let len = piece.len();
     let mut next = from;
     next.filled[k] = 1;
     next.lengths[k] = len as u16;
-    store(slots, k, body);
+    let at = k * body_tests::SLOT_BYTES;
+    wire::copy_at(slots, at, piece);
     let answer = finish(next, slots, join, len);
     Outcome { answer, held: next }
 }
@@ -157,13 +107,18 @@ pub fn collect(held: Collection, slots: &mut [u8], join: &mut [u8], body: &[u8])
             held,
         };
     }
-    let how = relate(held, slots, body);
-    if how == REPEATS {
+    let count = body[0];
+    let number = body[1];
+    let s = body[2] as usize;
+    let k = s - 1;
+    let piece = &body[3..];
+    let how = relation::relate(held, slots, count, number, k, piece);
+    if how == relation::REPEATS {
         return Outcome {
             answer: Answer::Repeat,
             held,
         };
     }
-    let from = base(how, held, body);
-    accept(from, slots, join, body)
+    let from = base(how, held, count, number);
+    accept(from, slots, join, k, piece)
 }

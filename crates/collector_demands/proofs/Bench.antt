@@ -20,7 +20,8 @@ use Rattle.collection.specs.Record.{emptyCollection}
 use Rattle.held.specs.Held.{soundTo, emptySlots, wellMade, isOf}
 use Rattle.joining.specs.Pieces.{pieceAt}
 use Rattle.body_tests.specs.Refusals.{bodyRefusal, refusalOf}
-use Rattle.collector.specs.Step.{relationOf, accepted, collectStep}
+use Rattle.relation.specs.Relation.{relationTo}
+use Rattle.collector.specs.Step.{accepted, collectStep}
 use Rattle.collection.specs.declared.Collection.{Collection}
 use Rattle.collector_demands.specs.Runs.{accepts, lookup, continues, runOf, missing, message, reply, replyOf}
 use Rattle.collector_demands.specs.Demand.{Lent, lentAfter, replyTo, isComplete, completions, concat, Cutting, bodyOf, Arrived, none, other, piece, Came, Apart, Demand3}
@@ -101,7 +102,7 @@ abbrev heldAlready : Collection
 heldAlready = record { count = 7; number = 1; filled = 1 ∷ replicate 15 0; lengths = replicate 16 0 }
 
 again-already : (slots join : List ℕ) → 24000 ≤ length slots → 24000 ≤ length join → collectStep heldAlready slots join (7 ∷ 1 ∷ 1 ∷ []) .answer ≡ again
-unfolding collectStep accepted relationOf isOf wellMade soundTo emptySlots pieceAt bodyRefusal sameBytes
+unfolding collectStep accepted relationTo isOf wellMade soundTo emptySlots pieceAt bodyRefusal sameBytes
 again-already slots join room space = rw (refusalOf-long (length slots) (length join) (7 ∷ 1 ∷ 1 ∷ []) room space) refl
 
 pub apart-needed : (slots join : List ℕ) (room : 24000 ≤ length slots) (space : 24000 ≤ length join) → Demand3 (lending slots join room space heldAlready) 7 [] ([] ∷ []) → ⊥

@@ -17,7 +17,8 @@ use Rattle.collector.specs.Answers.{Said, refused}
 use Rattle.collection.specs.Record.{emptyCollection}
 use Rattle.held.specs.Held.{emptySlots, soundTo, wellMade, isOf}
 use Rattle.body_tests.specs.Refusals.{countOf, numberOf, bodyRefusal, refusalOf}
-use Rattle.collector.specs.Step.{anew, relationOf, baseOf, After, after, accepted, collectStep}
+use Rattle.relation.specs.Relation.{anew, relationTo}
+use Rattle.collector.specs.Step.{relationOf, baseOf, After, after, accepted, collectStep}
 use Rattle.collection.specs.declared.Collection.{Collection}
 use Rattle.body_tests.proofs.Laws.{refusalOf-room}
 use Rattle.collector_demands.specs.Runs.{accepts, runOf, Reply, reply, replyOf, HeldBy, standsFor, Sized}
@@ -81,7 +82,7 @@ unfolding isOf
 blank-isOf c n = rw blank-nothing refl
 
 relation-anew : (r : Collection) (slots b : List ℕ) → isOf r (countOf b) (numberOf b) ≡ false → relationOf r slots b ≡ anew
-unfolding relationOf
+unfolding relationTo
 relation-anew r slots b e = rw e refl
 
 -- an accepted body that two records do not hold gives the same from both

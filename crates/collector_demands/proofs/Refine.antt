@@ -21,7 +21,8 @@ use Rattle.collection.specs.Record.{emptyCollection}
 use Rattle.held.specs.Held.{isFilled, emptySlots, wellMade, isOf}
 use Rattle.joining.specs.Pieces.{pieceAt, joined}
 use Rattle.body_tests.specs.Refusals.{countOf, numberOf, slotOf, pieceOf, bodyRefusal, refusalOf, Fits}
-use Rattle.collector.specs.Step.{goesOn, repeats, anew, relationOf, baseOf, noted, After, after, finished, accepted, collectStep}
+use Rattle.relation.specs.Relation.{goesOn, repeats, anew, relationTo}
+use Rattle.collector.specs.Step.{relationOf, baseOf, noted, After, after, finished, accepted, collectStep}
 use Rattle.collection.specs.declared.Collection.{Collection}
 use Rattle.body_tests.proofs.Laws.{fits-of}
 use Rattle.collector_demands.specs.Runs.{Slot, empty, full, isFull, bytesOf, accepts, lookup, takes, continues, runOf, missing, message, Reply, reply, storedReply, replyOf, SlotHas, HeldBy, nothing, these}
@@ -129,7 +130,7 @@ module _ (b : List ℕ) (fit : Fits b) (join : List ℕ) where
     filled-is (full p) flag e = rw e refl
 
     rel : relationOf r slots b ≡ cond (eqb (r .count) (countOf b) && eqb (r .number) (numberOf b)) (cond (isFull (lookup (x ∷ xs) (slotOf b))) (cond (sameBytes (bytesOf (lookup (x ∷ xs) (slotOf b))) (pieceOf b)) repeats anew) goesOn) anew
-    unfolding relationOf isOf
+    unfolding relationTo isOf
     rel = rw (w, filled-is (lookup (x ∷ xs) (slotOf b)) (getD (r .filled) (slotOf b) 0) (at-slot .has .flag), at-slot .has .bytes) refl
 
     busy-goal : Goal (x ∷ xs) r slots
@@ -145,7 +146,7 @@ module _ (b : List ℕ) (fit : Fits b) (join : List ℕ) where
       go true d true f (full q) g = last q (sameBytes q (pieceOf b)) refl d f g
 
   any-goal : (run : List (List ℕ)) (r : Collection) (slots : List ℕ) → Rep run r slots → Goal run r slots
-  unfolding continues relationOf isOf
+  unfolding continues relationTo isOf
   any-goal run rr ss (idle r slots room w) = starts [] r slots room refl (rw w refl)
   any-goal run rr ss (busy x xs r slots s c n w) = busy-goal x xs r slots s c n w
 

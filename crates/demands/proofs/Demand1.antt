@@ -26,7 +26,8 @@ use Rattle.collector.specs.Answers.{Said, refused, again, waiting, complete, le
 use Rattle.held.specs.Held.{emptySlots}
 use Rattle.joining.specs.Pieces.{joined}
 use Rattle.body_tests.specs.Refusals.{numberOf, slotOf, pieceOf, bodyRefusal, refusalOf}
-use Rattle.collector.specs.Step.{relationOf, repeats, baseOf, noted, After, after, finished, accepted, collectStep}
+use Rattle.relation.specs.Relation.{repeats}
+use Rattle.collector.specs.Step.{relationOf, baseOf, noted, After, after, finished, accepted, collectStep}
 use Rattle.lending.specs.Lent.{LentAfter, lentStep}
 use Rattle.collection.specs.declared.Collection.{Collection}
 use Rattle.table.specs.declared.Table.{Table}

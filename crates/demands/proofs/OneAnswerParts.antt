@@ -36,6 +36,7 @@ use Rattle.named.proofs.lone_number.Reads as lone_number
 use Rattle.collection.proofs.begin.Reads as begin
 use Rattle.held.proofs.is_of.Reads as is_of
 use Rattle.joining.proofs.join_pieces.Reads as join_pieces
+use Rattle.relation.proofs.relate.Reads as relate
 use Rattle.body_tests.proofs.refuse.Reads as refuse
 use Rattle.packets.proofs.wrong_length.Reads as wrong_length
 use Rattle.packets.proofs.read_packet.Reads as read_packet
@@ -154,6 +155,9 @@ is_of-one κs = only (parts.is_of-gives κs)
 
 pub join_pieces-one : (κs : Lfts 2) → One {L = JoinAfter} (λ x s. record { size = x; join = now (s .1 .0) }) (join_pieces.Post κs)
 join_pieces-one κs = only (parts.join_pieces-gives κs)
+
+pub relate-one : (κs : Lfts 2) → One answer (relate.Post κs)
+relate-one κs = only (parts.relate-gives κs)
 
 pub refuse-one : (κs : Lfts 1) → One answer (refuse.Post κs)
 refuse-one κs = only (parts.refuse-gives κs)

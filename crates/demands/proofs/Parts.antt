@@ -1,4 +1,4 @@
--- Parts: what the public functions of the lower crates give (numbers, wire, compare, table, types, musts, elements, element_tests, rows, clients, rules, classifiers, configurations, listed, named, collection, held, joining, body_tests, packets, matching, texts, notices, listing, bodies): each its definition, for every input.
+-- Parts: what the public functions of the lower crates give (numbers, wire, compare, table, types, musts, elements, element_tests, rows, clients, rules, classifiers, configurations, listed, named, collection, held, joining, relation, body_tests, packets, matching, texts, notices, listing, bodies): each its definition, for every input.
 --
 -- It says nothing of what the definitions mean; docs/MAP.md says where they stand. `met` of each function, in its own crate, says that the
 -- compiled function meets the contract cited here.
@@ -52,10 +52,12 @@ use Rattle.named.proofs.lone_number.Reads as lone_number
 use Rattle.collection.specs.Record.{emptyCollection}
 use Rattle.held.specs.Held.{isOf}
 use Rattle.joining.specs.Pieces.{JoinAfter, joinStep}
+use Rattle.relation.specs.Relation.{relationTo}
 use Rattle.body_tests.specs.Refusals.{refusalOf}
 use Rattle.collection.proofs.begin.Reads as begin
 use Rattle.held.proofs.is_of.Reads as is_of
 use Rattle.joining.proofs.join_pieces.Reads as join_pieces
+use Rattle.relation.proofs.relate.Reads as relate
 use Rattle.body_tests.proofs.refuse.Reads as refuse
 use Rattle.packets.specs.Packets.{wrongLength, packetOf}
 use Rattle.packets.proofs.wrong_length.Reads as wrong_length
@@ -182,6 +184,9 @@ is_of-gives κs a x s h = h
 
 pub join_pieces-gives : (κs : Lfts 2) → Gives {L = JoinAfter} (λ x s. record { size = x; join = now (s .1 .0) }) (join_pieces.Post κs) (λ a. joinStep (now (a .0)) (now (a .1 .0)) (a .1 .1 .0) (a .1 .1 .1 .0))
 join_pieces-gives κs a x s h = h
+
+pub relate-gives : (κs : Lfts 2) → Gives answer (relate.Post κs) (λ a. relationTo (a .0) (now (a .1 .0)) (a .1 .1 .0) (a .1 .1 .1 .0) (a .1 .1 .1 .1 .0) (now (a .1 .1 .1 .1 .1 .0)))
+relate-gives κs a x s h = h
 
 pub refuse-gives : (κs : Lfts 1) → Gives answer (refuse.Post κs) (λ a. refusalOf (a .0) (a .1 .0) (now (a .1 .1 .0)))
 refuse-gives κs a x s h = h

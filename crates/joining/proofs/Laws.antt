@@ -1,6 +1,6 @@
 -- Laws of the pieces in the slot buffer, and joined (specs/Pieces.antt).
 --
---   part-cut                         a part cut where the list ends
+--   part-cut, pieceAt-cut            a part, and a piece, cut where the list ends
 --   length-pieceAt, length-joined    a piece as long as its slot says; the joined pieces at most n x 1,497
 --   joined-more, joinedInto-more     one turn of the loop that joins
 --   joinStep-most                    there are sixteen slots for any greater number
@@ -32,7 +32,7 @@ take-cut n l = go (order n (length l)) where
   go (inl h) = let e : min n (length l) ≡ n = omega arith in rw e refl
   go (inr h) = take-all (min n (length l)) l (omega arith) ∙ sym (take-all n l (omega arith))
 
-pub part-cut : (l : List ℕ) (a n f t : ℕ) → f ≡ min a (length l) → t ≡ min (a + n) (length l) → take (t - f) (drop f l) ≡ take n (drop a l)
+part-cut : (l : List ℕ) (a n f t : ℕ) → f ≡ min a (length l) → t ≡ min (a + n) (length l) → take (t - f) (drop f l) ≡ take n (drop a l)
 part-cut l a n f t ef et = go (order a (length l)) where
   go : (a ≤ length l) ⊎ (length l < a) → take (t - f) (drop f l) ≡ take n (drop a l)
   go (inl h) =
@@ -59,22 +59,24 @@ length-joined slots lens zero h = omega arith
 length-joined slots lens (suc n) h =
     simp length-append (omega (arith, length-joined slots lens n (λ k q. h k (omega arith)), length-pieceAt-le slots lens n, h n (omega arith)))
 
+-- a piece, cut where the slot buffer ends
+pub pieceAt-cut : (slots lens : List ℕ) (k f t : ℕ) → f ≡ min (k * 1500) (length slots) → t ≡ min (k * 1500 + getD lens k 0) (length slots)
+    → take (t - f) (drop f slots) ≡ pieceAt slots lens k
+unfolding pieceAt
+pieceAt-cut slots lens k f t ef et = part-cut slots (k * 1500) (getD lens k 0) f t ef et
+
 -- a turn of the loop that joins: the piece of slot k, cut where the slot buffer ends, at the place that the pieces before it leave
 module _ (slots lens join : List ℕ) (k f t : ℕ) (ef : f ≡ min (k * 1500) (length slots)) (et : t ≡ min (k * 1500 + getD lens k 0) (length slots)) where
-  piece-cut : take (t - f) (drop f slots) ≡ pieceAt slots lens k
-  unfolding pieceAt
-  piece-cut = part-cut slots (k * 1500) (getD lens k 0) f t ef et
-
   pub joined-more : (a : ℕ) → a ≡ length (joined slots lens k) → a + (t - f) ≡ length (joined slots lens (suc k))
   unfolding joined
   joined-more a e =
       let m : length (take (t - f) (drop f slots)) ≡ t - f = length-take-le (t - f) (drop f slots) (omega (arith, length-drop f slots)) in
-      omega (arith, e, m, ap length piece-cut, length-append (joined slots lens k) (pieceAt slots lens k))
+      omega (arith, e, m, ap length (pieceAt-cut slots lens k f t ef et), length-append (joined slots lens k) (pieceAt slots lens k))
 
   pub joinedInto-more : (b : List ℕ) (a : ℕ) → b ≡ joinedInto join slots lens k → a ≡ length (joined slots lens k)
       → pasted b a (take (t - f) (drop f slots)) ≡ joinedInto join slots lens (suc k)
   unfolding joinedInto
-  joinedInto-more b a e g = rw (e, g, piece-cut) refl
+  joinedInto-more b a e g = rw (e, g, pieceAt-cut slots lens k f t ef et) refl
 
 -- ---- a slot beyond the lengths has no bytes
 

@@ -1,13 +1,12 @@
--- `collector::accept` gives `storedStep`, by what `store` and `finish` ensure.
+-- `collector::accept` gives `storedStep`, by what `wire::copy_at` and `finish` ensure.
 -- Trusts: nothing.
 use mathlib.Core.Path.{ap, _∙_}
 use mathlib.Core.List.{List}
 use native.Mathlib.Omega.{arith}
-use Prim.Native.Nat.{ℕ, _-_}
+use Prim.Native.Nat.{ℕ}
 use borrow.Author.Needs.{needs}
 use denote.Ref.{now}
 use lib.ListN.{length}
-use Rattle.body_tests.specs.Refusals.{slotOf}
 use Rattle.collector.specs.Step.{noted, finished}
 use Rattle.collector.proofs.LawsStep.{set-bound}
 use Rattle.collector.proofs.accept.Statement.{statement}
@@ -15,24 +14,19 @@ use Rattle.collector.proofs.accept.Tie as tie
 
 finish-requires : tie.Need-finish-requires
 finish-requires c κs =
-    let e = c .before .before .before .before .before .before .before .before .before .before in (
-      (omega (arith, e .pre), e .pre .1 .0 .1),
-      (λ k p. set-bound (e .args .from .lengths) _ (length (now (e .args .body)) - 3) k 1497 (e .pre .1 .1 k p) (omega (arith, e .pre))),
-    )
+    let e = c .before .before .before .before .before .before .before .before .before in
+    ((e .pre .1 .0 .0, e .pre .1 .0 .1), λ k p. set-bound (e .args .from .lengths) (e .args .k) (length (now (e .args .piece))) k 1497 (e .pre .1 .1 k p) (e .pre .0 .1))
 
 returns : tie.Need-returns
 returns c =
-    let a = c .before .before .before .before .before .before .before .before .before .before .before .before .before .args in
-    let len = length (now (a .body)) - 3 in
-    c .before .before .finish .ensures ∙ ap (λ (l : List ℕ). finished (noted (a .from) (slotOf (now (a .body))) len) l (now (a .join)) len) (c .before .before .before .before .before .before .before .store .ensures)
+    let a = c .before .before .before .before .before .before .before .before .before .before .before .before .args in
+    let len = length (now (a .piece)) in
+    c .before .before .finish .ensures ∙ ap (λ (l : List ℕ). finished (noted (a .from) (a .k) len) l (now (a .join)) len) (c .before .before .before .before .before .before .before .copy-at .ensures)
 
 pub accept-spec : {M : Type 1} → statement M
 accept-spec =
     tie.close
     (tie.spec
-    (λ c. search needs)
-    (λ c. search needs)
-    (λ c. search needs)
     (λ c. search needs)
     (λ c. search needs)
     (λ c. search needs)
