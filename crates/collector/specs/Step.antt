@@ -3,7 +3,8 @@
 --   relationOf r slots body    how the body's piece stands to what is held
 --   collectStep r slots join body   the answer, the record and both buffers after the call
 --
--- Any record and any lengths have a meaning: what a record holds is said in specs/ of held, how a piece stands to that in specs/ of relation, and what is refused in specs/ of body_tests.
+-- Any record and any lengths have a meaning: what a record holds is said in specs/ of held, how a piece stands to that in specs/ of
+-- relation, and what is refused in specs/ of body_tests.
 -- Tested by: the bench example in proofs/Bench.antt of collector_demands; runs of bodies against the other program in host/.
 -- Trusts: nothing.
 use Prim.Native.Nat.{ℕ, _*_, _-_}

@@ -9,7 +9,7 @@ use mathlib.Core.Path.{_≡_, refl}
 use mathlib.Core.Bool.{Bool, true, false, cond}
 use mathlib.Core.List.{List}
 use native.Mathlib.Omega.{arith}
-use borrow.Author.Tests.{eqb-true, eq-eqb, ne-eqb}
+use borrow.Author.Tests.{eqb-true, ne-eqb}
 use lib.ListN.{length, getD, List·getD-eq-default}
 use lib.Dec.{eqb}
 use Rattle.wire.proofs.Laws.{both}
@@ -18,6 +18,10 @@ use Rattle.collection.specs.declared.Collection.{Collection}
 use Rattle.held.specs.Held.{isFilled, wellMade, isOf}
 use Rattle.joining.specs.Pieces.{pieceAt}
 use Rattle.relation.specs.Relation.{goesOn, repeats, anew, relationTo}
+
+goes-on : (a b c : Bool) → cond a (cond b (cond c repeats anew) goesOn) anew ≡ goesOn → a ≡ true
+goes-on true b c h = refl
+goes-on false b c h = absurd (omega arith)
 
 module _ (r : Collection) (slots : List ℕ) (count number k : ℕ) (piece : List ℕ) where
   pub relationTo-other : isOf r count number ≡ false → anew ≡ relationTo r slots count number k piece
@@ -35,10 +39,6 @@ module _ (r : Collection) (slots : List ℕ) (count number k : ℕ) (piece : Lis
       → cond t repeats anew ≡ relationTo r slots count number k piece
   unfolding relationTo
   relationTo-filled e f t s = simp (e, f, s)
-
-  goes-on : (a b c : Bool) → cond a (cond b (cond c repeats anew) goesOn) anew ≡ goesOn → a ≡ true
-  goes-on true b c h = refl
-  goes-on false b c h = absurd (omega arith)
 
   pub relationTo-goesOn : relationTo r slots count number k piece ≡ goesOn → (wellMade r ≡ true) × (r .number ≡ number)
   unfolding relationTo isOf
