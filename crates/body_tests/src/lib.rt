@@ -5,10 +5,10 @@
 ghost use mathlib.Core.Path.{_≡_};
 ghost use Rattle.body_tests.specs.Refusals.{bodyRefusal, refusalOf};
 
-// The least length of a lent buffer, and the bytes of a slot.
+// The least length of a lent buffer, and the most bytes of a body.
 pub const BUFFER_BYTES: usize = 24000;
 
-pub const SLOT_BYTES: usize = 1500;
+pub const BODY_BYTES: usize = 1500;
 
 // The first of tests 2 to 5 that the body fails, or 0.
 fn refuse_body(body: &[u8]) -> u8
@@ -17,7 +17,7 @@ fn refuse_body(body: &[u8]) -> u8
     if body.len() < 3 {
         return 2;
     }
-    if SLOT_BYTES < body.len() {
+    if BODY_BYTES < body.len() {
         return 3;
     }
     let n = body[1];

@@ -90,7 +90,7 @@ fn accept(from: Collection, slots: &mut [u8], join: &mut [u8], k: usize, piece: 
     let mut next = from;
     next.filled[k] = 1;
     next.lengths[k] = len as u16;
-    let at = k * body_tests::SLOT_BYTES;
+    let at = k * joining::SLOT_BYTES;
     wire::copy_at(slots, at, piece);
     let answer = finish(next, slots, join, len);
     Outcome { answer, held: next }
