@@ -30,39 +30,21 @@ abbrev pub tdsg1Zero : List ℕ
 tdsg1Zero = 51 ∷ 4 ∷ 2 ∷ 2 ∷ 0 ∷ 0 ∷ []
 
 -- the tests of their elements
-bare-tested : testedAt (50 ∷ 0 ∷ []) 0 (counted 0 0) ≡ (record { bad = 13; off = 0; next = 2; tally = counted 0 0 })
-unfolding numberAt headAt knownTypes childOf under placed typeOf parentIn table lineAt placeIn knownAt typeUnder missingIn lacksMust secondCopy wrongLength noChannel badValue isFull ownTests isRow rowEnd elementWith rowStep testedFrom rowOf elementOf testedAt
-bare-tested = refl
-
-twice-tested : (testedAt twice 0 (counted 0 0) ≡ (record { bad = 0; off = 0; next = 2; tally = counted 0 1 }))
+tested : (testedAt (50 ∷ 0 ∷ []) 0 (counted 0 0) ≡ (record { bad = 13; off = 0; next = 2; tally = counted 0 0 }))
+    × (testedAt twice 0 (counted 0 0) ≡ (record { bad = 0; off = 0; next = 2; tally = counted 0 1 }))
     × (testedAt twice 2 (counted 0 1) ≡ (record { bad = 9; off = 2; next = 4; tally = counted 0 1 }))
+    × (testedAt tdsg1Zero 0 (counted 0 0) ≡ (record { bad = 11; off = 2; next = 6; tally = counted 0 0 }))
 unfolding numberAt headAt knownTypes childOf under placed typeOf parentIn table lineAt placeIn knownAt typeUnder missingIn lacksMust secondCopy wrongLength noChannel badValue isFull ownTests isRow rowEnd elementWith rowStep testedFrom rowOf elementOf testedAt
-twice-tested = (refl, refl)
-
-tdsg1-tested : testedAt tdsg1Zero 0 (counted 0 0) ≡ (record { bad = 11; off = 2; next = 6; tally = counted 0 0 })
-unfolding numberAt headAt knownTypes childOf under placed typeOf parentIn table lineAt placeIn knownAt typeUnder missingIn lacksMust secondCopy wrongLength noChannel badValue isFull ownTests isRow rowEnd elementWith rowStep testedFrom rowOf elementOf testedAt
-tdsg1-tested = refl
+tested = (refl, refl, refl, refl)
 
 -- their rows
-lone-row : rowIn (50 ∷ []) 0 1 ≡ bad 0 6
+rows-are : (rowIn (50 ∷ []) 0 1 ≡ bad 0 6)
+    × (rowIn (50 ∷ 255 ∷ []) 0 2 ≡ bad 0 7)
+    × (rowIn (50 ∷ 0 ∷ []) 0 2 ≡ item 0 0 done)
+    × (rowIn twice 0 4 ≡ item 0 0 (item 2 0 done))
+    × (rowIn tdsg1Zero 0 6 ≡ item 0 4 done)
 unfolding headAt rowFrom rowIn
-lone-row = refl
-
-long-row : rowIn (50 ∷ 255 ∷ []) 0 2 ≡ bad 0 7
-unfolding headAt rowFrom rowIn
-long-row = refl
-
-bare-row : rowIn (50 ∷ 0 ∷ []) 0 2 ≡ item 0 0 done
-unfolding headAt rowFrom rowIn
-bare-row = refl
-
-twice-row : rowIn twice 0 4 ≡ item 0 0 (item 2 0 done)
-unfolding headAt rowFrom rowIn
-twice-row = refl
-
-tdsg1-row : rowIn tdsg1Zero 0 6 ≡ item 0 4 done
-unfolding headAt rowFrom rowIn
-tdsg1-row = refl
+rows-are = (refl, refl, refl, refl, refl)
 
 -- the first of the two configurations
 twice-configured : configurationAt twice 0 ≡ emptyConfiguration
@@ -71,20 +53,20 @@ twice-configured = refl
 
 module _ (given : Table) where
   pub read-lone : readTable given (50 ∷ []) ≡ refusal 6 0 given
-  read-lone = whole given (50 ∷ []) (bad 0 6) refl lone-row
+  read-lone = whole given (50 ∷ []) (bad 0 6) refl (rows-are .0)
 
   pub read-255 : readTable given (50 ∷ 255 ∷ []) ≡ refusal 7 0 given
-  read-255 = whole given (50 ∷ 255 ∷ []) (bad 0 7) refl long-row
+  read-255 = whole given (50 ∷ 255 ∷ []) (bad 0 7) refl (rows-are .1)
 
   pub read-bare : readTable given (50 ∷ 0 ∷ []) ≡ refusal 13 0 given
-  read-bare = whole given (50 ∷ 0 ∷ []) (item 0 0 done) refl bare-row ∙ stops given (50 ∷ 0 ∷ []) 0 0 done emptyTally emptyTable bare-tested refl
+  read-bare = whole given (50 ∷ 0 ∷ []) (item 0 0 done) refl (rows-are .2) ∙ stops given (50 ∷ 0 ∷ []) 0 0 done emptyTally emptyTable (tested .0) refl
 
   pub read-twice : readTable given twice ≡ refusal 9 2 given
   read-twice =
       let with = withElement-configuration twice 0 emptyTable refl (sym twice-configured) in
-      whole given twice (item 0 0 (item 2 0 done)) refl twice-row
-      ∙ goes given twice 0 0 (item 2 0 done) emptyTally emptyTable (twice-tested .0) refl (isTaken-configuration twice 0 emptyTable refl) (sym with)
-      ∙ stops given twice 2 0 done (counted 0 1) emptyTable (twice-tested .1) refl
+      whole given twice (item 0 0 (item 2 0 done)) refl (rows-are .3)
+      ∙ goes given twice 0 0 (item 2 0 done) emptyTally emptyTable (tested .1) refl (isTaken-configuration twice 0 emptyTable refl) (sym with)
+      ∙ stops given twice 2 0 done (counted 0 1) emptyTable (tested .2) refl
 
   pub read-tdsg1 : readTable given tdsg1Zero ≡ refusal 11 2 given
-  read-tdsg1 = whole given tdsg1Zero (item 0 4 done) refl tdsg1-row ∙ stops given tdsg1Zero 0 4 done emptyTally emptyTable tdsg1-tested refl
+  read-tdsg1 = whole given tdsg1Zero (item 0 4 done) refl (rows-are .4) ∙ stops given tdsg1Zero 0 4 done emptyTally emptyTable (tested .3) refl

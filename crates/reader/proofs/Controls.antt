@@ -22,7 +22,15 @@ use Rattle.reader.specs.declared.Verdict.the-variants.{Accepted, Refused
 -- another table than the empty one
 abbrev other : Table
 other =
-    record { rulecount = 1; classifiercount = emptyTable .classifiercount; channelcount = emptyTable .channelcount; timers = emptyTable .timers; channels = emptyTable .channels; classifiers = emptyTable .classifiers; rules = emptyTable .rules }
+    record {
+      rulecount = 1;
+      classifiercount = emptyTable .classifiercount;
+      channelcount = emptyTable .channelcount;
+      timers = emptyTable .timers;
+      channels = emptyTable .channels;
+      classifiers = emptyTable .classifiers;
+      rules = emptyTable .rules;
+    }
 
 module _ (read : Table → List ℕ → Reading) (promise : (given : Table) (msg : List ℕ) → read given msg ≡ readTable given msg) where
   pub no-refuse-all : ((given : Table) (msg : List ℕ) → numberOf (read given msg .verdict) ≡ 0 → ⊥) → ⊥
