@@ -9,9 +9,9 @@
 --   testedAt-room      the same of a type that repeats: there was room
 -- Trusts: nothing.
 use mathlib.Core.Path.{_≡_, refl, ap, _∙_}
-use mathlib.Core.Bool.{Bool, true, false, cond, not}
+use mathlib.Core.Bool.{Bool, true, false, not}
 use mathlib.Core.List.{List}
-use Prim.Native.Nat.{ℕ, zero, suc, _+_, _-_, _≤_, _<_}
+use Prim.Native.Nat.{ℕ, _+_, _≤_, _<_}
 use native.Mathlib.Omega.{arith}
 use borrow.Author.Tests.{eq-eqb, eqb-true, eqb-false, not-true, leb-false}
 use lib.ListN.{length, getD, set}
@@ -19,14 +19,13 @@ use lib.Seq.{set-out}
 use lib.Dec.{eqb}
 use Rattle.elements.specs.Elements.{headAt}
 use Rattle.types.specs.Places.{typeUnder}
-use Rattle.musts.specs.Musts.{lacksMust}
 use Rattle.elements.proofs.Laws.{headAt-end, headAt-ends, headAt-starts, headAt-fits}
 use Rattle.elements.specs.declared.Head.{Head}
 use Rattle.elements.specs.declared.Head.the-variants.{End, Refused, Value}
 use Rattle.types.specs.declared.Known.{Known}
 use Rattle.element_tests.specs.Tests.{stepped, secondCopy, wrongLength, badValue, isFull, ownTests}
-use Rattle.rows.specs.Tests.{isRow, rowEnd, noneCounted}
-use Rattle.rows.specs.Rows.{elementWith, noted, goOn, onHead, rowStep, rowFrom, rowOf, elementOf, tested, testedAt}
+use Rattle.rows.specs.Tests.{isRow}
+use Rattle.rows.specs.Rows.{elementWith, noted, elementOf, tested, testedAt}
 use Rattle.rows.specs.declared.Tally.{Tally}
 use Rattle.element_tests.specs.declared.Step.{Step}
 use Rattle.rows.specs.declared.Fault.{Fault}

@@ -1,12 +1,10 @@
 -- `named::named_place` gives namedPlace: the j-th 50.6 in the row of the i-th 50, or 0 where no element stands.
 -- Trusts: nothing.
 use borrow.Author.Needs.{needs}
-use Prim.Native.Nat.{ℕ, _-_, _+_, _≤_}
-use mathlib.Core.Path.{_≡_, refl, sym, ap, _∙_}
+use Prim.Native.Nat.{ℕ}
+use mathlib.Core.Path.{_≡_, _∙_}
 use native.Mathlib.Omega.{arith}
 use mathlib.Core.Logic.{⊎-elim}
-use lib.ListN.{getD}
-use Rattle.children.specs.Rows.{placesOf}
 use Rattle.children.proofs.Laws.{item-fits, rowInside-done, rowInside-row}
 use Rattle.named.specs.Named.{namedPlace}
 use Rattle.named.proofs.named_place.Statement.{statement}
