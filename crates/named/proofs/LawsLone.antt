@@ -16,44 +16,53 @@ use Rattle.table.specs.declared.Rule.{Rule}
 use Rattle.table.specs.declared.Classifier.{Classifier}
 use Rattle.table.specs.declared.Table.{Table}
 use Rattle.table.proofs.Laws.{limitedTo-le}
-use Rattle.listed.specs.Listed.{isListed}
-use Rattle.listed.proofs.Laws.{front-all}
+use Rattle.listed.specs.Listed.{isListed, isAmong}
+use Rattle.listed.proofs.Laws.{front-all, isAmong-front}
 use Rattle.named.specs.Named.{classifierNumbers, loneIn, loneOf, unanswered, namedPlace, loneNumber}
 use Rattle.named.specs.declared.Found.{Found}
 use Rattle.named.specs.declared.Found.the-variants.{Nothing, Number}
 use Rattle.named.specs.declared.Lone.the-variants.{Answered, At}
 use Rattle.named.proofs.Lists.{front-next, front-end}
 
-module _ (carried : List ℕ) (t : Table) (d : Rule) (i : ℕ) where
-  pub lone-rule : length (t .rules) ≡ 32 → i < limitedTo 32 (t .rulecount)
+-- the rules from the i-th on, of which there are so many as the count says
+module _ (carried : List ℕ) (t : Table) (i : ℕ) {rules : ℕ} (n : rules ≡ limitedTo 32 (t .rulecount)) where
+  pub lone-rule : (d : Rule) → length (t .rules) ≡ 32 → i < rules
       → loneIn carried i 0 (drop 0 (numbersOf (getD (t .rules) i d))) (loneOf carried (i + 1) (drop (i + 1) (rulesOf t))) ≡ loneOf carried i (drop i (rulesOf t))
   unfolding rulesOf
-  lone-rule e h =
+  lone-rule d e h =
       let fits = limitedTo-le 32 (t .rulecount) in
-      rw (front-next (t .rules) d (limitedTo 32 (t .rulecount)) i h (omega arith))
+      rw (front-next (t .rules) d (limitedTo 32 (t .rulecount)) i (omega arith) (omega arith))
 
-pub lone-end : (carried : List ℕ) (t : Table) (i : ℕ) → limitedTo 32 (t .rulecount) ≤ i → Nothing ≡ loneOf carried i (drop i (rulesOf t))
-unfolding rulesOf
-lone-end carried t i h = rw (front-end (t .rules) (limitedTo 32 (t .rulecount)) i h)
+  pub lone-end : rules ≤ i → Nothing ≡ loneOf carried i (drop i (rulesOf t))
+  unfolding rulesOf
+  lone-end h = rw (front-end (t .rules) (limitedTo 32 (t .rulecount)) i (omega arith))
 
-module _ (carried : List ℕ) (i : ℕ) (q : Rule) (j : ℕ) (later : Found) where
-  lone-step : length (q .numbers) ≡ 8 → j < limitedTo 8 (q .numbercount)
-      → loneIn carried i j (drop j (numbersOf q)) later ≡ cond (isListed (getD (q .numbers) j 0) carried) (loneIn carried i (j + 1) (drop (j + 1) (numbersOf q)) later) (Number i j)
+-- a rule's numbers from the j-th on, likewise
+module _ (carried : List ℕ) (i : ℕ) (q : Rule) (j : ℕ) (later : Found) {numbers : ℕ} (n : numbers ≡ limitedTo 8 (q .numbercount)) where
+  lone-step : length (q .numbers) ≡ 8 → j < numbers
+      → loneIn carried i j (drop j (numbersOf q)) later
+      ≡ cond (isListed (getD (q .numbers) j 0) carried) (loneIn carried i (j + 1) (drop (j + 1) (numbersOf q)) later) (Number i j)
   unfolding numbersOf
   lone-step e h =
       let fits = limitedTo-le 8 (q .numbercount) in
-      rw (front-next (q .numbers) 0 (limitedTo 8 (q .numbercount)) j h (omega arith))
+      rw (front-next (q .numbers) 0 (limitedTo 8 (q .numbercount)) j (omega arith) (omega arith))
 
-  module _ (room : length (q .numbers) ≡ 8) (h : j < limitedTo 8 (q .numbercount)) {answered : Bool} (e : answered ≡ isListed (getD (q .numbers) j 0) carried) where
-    pub lone-answered : answered ≡ true → loneIn carried i (j + 1) (drop (j + 1) (numbersOf q)) later ≡ loneIn carried i j (drop j (numbersOf q)) later
-    lone-answered y = sym (lone-step room h ∙ simp (← e, y))
-
-    pub lone-number : answered ≡ false → Number i j ≡ loneIn carried i j (drop j (numbersOf q)) later
-    lone-number n = sym (lone-step room h ∙ simp (← e, n))
-
-  pub lone-done : limitedTo 8 (q .numbercount) ≤ j → later ≡ loneIn carried i j (drop j (numbersOf q)) later
+  pub lone-done : numbers ≤ j → later ≡ loneIn carried i j (drop j (numbersOf q)) later
   unfolding numbersOf
-  lone-done h = rw (front-end (q .numbers) (limitedTo 8 (q .numbercount)) j h)
+  lone-done h = rw (front-end (q .numbers) (limitedTo 8 (q .numbercount)) j (omega arith))
+
+-- the j-th number, looked for among the first `count` of a list of 32
+module _ (count : ℕ) (l : List ℕ) (all : length l ≡ 32) (i : ℕ) (q : Rule) (j : ℕ) (later : Found) {numbers : ℕ} (n : numbers ≡ limitedTo 8 (q .numbercount))
+    (room : length (q .numbers) ≡ 8) (h : j < numbers) {answered : Bool} (e : answered ≡ isAmong (getD (q .numbers) j 0) (limitedTo 32 count) l) where
+  looked : answered ≡ isListed (getD (q .numbers) j 0) (take count l)
+  looked = e ∙ isAmong-front (getD (q .numbers) j 0) count l all
+
+  pub lone-answered : answered ≡ true
+      → loneIn (take count l) i (j + 1) (drop (j + 1) (numbersOf q)) later ≡ loneIn (take count l) i j (drop j (numbersOf q)) later
+  lone-answered y = sym (lone-step (take count l) i q j later n room h ∙ simp (← looked, y))
+
+  pub lone-number : answered ≡ false → Number i j ≡ loneIn (take count l) i j (drop j (numbersOf q)) later
+  lone-number f = sym (lone-step (take count l) i q j later n room h ∙ simp (← looked, f))
 
 -- the numbers of the classifiers, gathered
 pub gathered-all : (t : Table) (carried : List ℕ) (k : ℕ) → length carried ≡ 32 → k ≡ limitedTo 32 (t .classifiercount)

@@ -3,26 +3,30 @@
 --   no-refuse-all     one that refuses every message          no-accept-all   one that accepts every message
 --   no-given-kept     one whose accepted table follows the lent one
 -- Trusts: nothing.
-use mathlib.Core.Path.{_≡_, refl, sym, ap, _∙_}
+use mathlib.Core.Path.{_≡_, sym, ap, _∙_}
 use mathlib.Core.List.{List, [], _∷_}
 use Prim.Native.Nat.{ℕ}
 use native.Mathlib.Omega.{arith}
-use lib.ListN.{replicate}
-use Rattle.table.specs.Table.{rulesOf, classifiersOf, emptyTable}
+use Rattle.table.specs.Table.{rulesOf, emptyTable}
 use Rattle.table.specs.declared.Table.{Table}
 use Rattle.elements.specs.Elements.{headAt}
-use Rattle.rows.specs.Rows.{testedAt}
 use Rattle.children.specs.Rows.{rowFrom, rowIn}
 use Rattle.named.specs.Named.{unanswered, loneNumber}
 use Rattle.reader.specs.Read.{numberOf, readTable}
 use Rattle.reader.specs.declared.Reading.{Reading}
-use Rattle.reader.specs.declared.Verdict.{Verdict}
-use Rattle.reader.specs.declared.Verdict.the-variants.{Accepted, Refused}
 
 -- another table than the empty one
 abbrev other : Table
 other =
-    record { rulecount = 1; classifiercount = emptyTable .classifiercount; channelcount = emptyTable .channelcount; timers = emptyTable .timers; channels = emptyTable .channels; classifiers = emptyTable .classifiers; rules = emptyTable .rules }
+    record {
+      rulecount = 1;
+      classifiercount = emptyTable .classifiercount;
+      channelcount = emptyTable .channelcount;
+      timers = emptyTable .timers;
+      channels = emptyTable .channels;
+      classifiers = emptyTable .classifiers;
+      rules = emptyTable .rules;
+    }
 
 module _ (read : Table → List ℕ → Reading) (promise : (given : Table) (msg : List ℕ) → read given msg ≡ readTable given msg) where
   pub no-refuse-all : ((given : Table) (msg : List ℕ) → numberOf (read given msg .verdict) ≡ 0 → ⊥) → ⊥

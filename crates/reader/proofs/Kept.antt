@@ -5,9 +5,8 @@
 --   pushedRule, pushedClassifier   the table with a rule, a classifier, stored at a place; withRule-pushed, -full, .. say when it is what is left
 -- Trusts: nothing.
 use Prim.Native.Nat.{ℕ, _+_, _≤_, _<_}
-use mathlib.Core.Path.{_≡_, refl, sym, ap, _∙_}
-use mathlib.Core.Bool.{cond}
-use mathlib.Core.List.{List, map}
+use mathlib.Core.Path.{_≡_, refl, _∙_}
+use mathlib.Core.List.{List}
 use native.Mathlib.Omega.{arith}
 use borrow.Author.Tests.{lt-ltb, le-ltb}
 use lib.ListN.{length, take, set, replicate, length-set}
@@ -36,11 +35,27 @@ limited-same limit n h = simp (le-ltb limit n h)
 -- the rule as it goes to a place, and the classifier
 abbrev pub pushedRule : ℕ → Rule → Table → Table
 pushedRule at q t =
-    record { rulecount = t .rulecount + 1; classifiercount = t .classifiercount; channelcount = t .channelcount; timers = t .timers; channels = t .channels; classifiers = t .classifiers; rules = set (t .rules) at q }
+    record {
+      rulecount = t .rulecount + 1;
+      classifiercount = t .classifiercount;
+      channelcount = t .channelcount;
+      timers = t .timers;
+      channels = t .channels;
+      classifiers = t .classifiers;
+      rules = set (t .rules) at q;
+    }
 
 abbrev pub pushedClassifier : ℕ → Classifier → Table → Table
 pushedClassifier at q t =
-    record { rulecount = t .rulecount; classifiercount = t .classifiercount + 1; channelcount = t .channelcount; timers = t .timers; channels = t .channels; classifiers = set (t .classifiers) at q; rules = t .rules }
+    record {
+      rulecount = t .rulecount;
+      classifiercount = t .classifiercount + 1;
+      channelcount = t .channelcount;
+      timers = t .timers;
+      channels = t .channels;
+      classifiers = set (t .classifiers) at q;
+      rules = t .rules;
+    }
 
 module _ (q : Rule) (t : Table) where
   pub withRule-pushed : {at : ℕ} → at ≡ t .rulecount → at < 32 → pushedRule at q t ≡ withRule q t
@@ -63,10 +78,20 @@ module _ (q : Classifier) (t : Table) where
 pub kept-empty : Kept (replicate 32 0) (replicate 32 0) emptyTable
 unfolding rulesOf classifiersOf
 kept-empty =
-    record { rules = omega arith; classifiers = omega arith; ruleroom = refl; classifierroom = refl; ruleidroom = refl; classifieridroom = refl; ruled = refl; classified = refl }
+    record {
+      rules = omega arith;
+      classifiers = omega arith;
+      ruleroom = refl;
+      classifierroom = refl;
+      ruleidroom = refl;
+      classifieridroom = refl;
+      ruled = refl;
+      classified = refl;
+    }
 
 module _ {a b : List ℕ} {t : Table} (k : Kept a b t) where
-  pub kept-rule : (q : Rule) {at : ℕ} → at ≡ t .rulecount → at < 32 → {ids : List ℕ} → ids ≡ set a (t .rulecount) (q .number) → Kept ids b (pushedRule at q t)
+  pub kept-rule : (q : Rule) {at : ℕ} → at ≡ t .rulecount → at < 32 → {ids : List ℕ} → ids ≡ set a (t .rulecount) (q .number)
+      → Kept ids b (pushedRule at q t)
   unfolding rulesOf classifiersOf
   kept-rule q f h e =
       rw (f, e)
@@ -84,7 +109,8 @@ module _ {a b : List ℕ} {t : Table} (k : Kept a b t) where
         classified = k .classified;
       }
 
-  pub kept-classifier : (q : Classifier) {at : ℕ} → at ≡ t .classifiercount → at < 32 → {ids : List ℕ} → ids ≡ set b (t .classifiercount) (q .number) → Kept a ids (pushedClassifier at q t)
+  pub kept-classifier : (q : Classifier) {at : ℕ} → at ≡ t .classifiercount → at < 32 → {ids : List ℕ} → ids ≡ set b (t .classifiercount) (q .number)
+      → Kept a ids (pushedClassifier at q t)
   unfolding rulesOf classifiersOf
   kept-classifier q f h e =
       rw (f, e)
@@ -105,4 +131,13 @@ module _ {a b : List ℕ} {t : Table} (k : Kept a b t) where
   pub kept-configuration : (q : Configuration) → Kept a b (withConfiguration q t)
   unfolding rulesOf classifiersOf
   kept-configuration q =
-      record { rules = k .rules; classifiers = k .classifiers; ruleroom = k .ruleroom; classifierroom = k .classifierroom; ruleidroom = k .ruleidroom; classifieridroom = k .classifieridroom; ruled = k .ruled; classified = k .classified }
+      record {
+        rules = k .rules;
+        classifiers = k .classifiers;
+        ruleroom = k .ruleroom;
+        classifierroom = k .classifierroom;
+        ruleidroom = k .ruleidroom;
+        classifieridroom = k .classifieridroom;
+        ruled = k .ruled;
+        classified = k .classified;
+      }

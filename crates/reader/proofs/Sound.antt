@@ -6,12 +6,12 @@
 --   distinct-more                 a number more at the end of a list
 -- Trusts: nothing.
 use Prim.Native.Nat.{ℕ, _+_, _≤_, _<_}
-use mathlib.Core.Path.{_≡_, refl, sym, ap, _∙_}
+use mathlib.Core.Path.{_≡_, refl, sym, ap}
 use mathlib.Core.Bool.{Bool, true, false, cond, not, _&&_, _||_}
 use mathlib.Core.List.{List, [], _∷_, _++_, map}
 use native.Mathlib.Omega.{arith}
 use native.Mathlib.Numerals.{add-one}
-use borrow.Author.Tests.{ltb-true, eqb-true, eqb-false, ne-eqb}
+use borrow.Author.Tests.{ltb-true, eqb-false, ne-eqb}
 use lib.ListN.{length, take, set, length-set}
 use lib.Seq.{take-suc-set}
 use lib.Dec.{eqb, ltb}
@@ -74,7 +74,17 @@ module _ {t : Table} (s : Sound t) where
     where
       pushed : t .rulecount < 32 → Sound (pushedRule (t .rulecount) q t)
       pushed h =
-          record { rules = omega arith; classifiers = s .classifiers; channels = s .channels; ruleroom = simp length-set (s .ruleroom); classifierroom = s .classifierroom; ruleapart = rw (more (λ (x : Rule). x .number) (t .rules) (t .rulecount) q h (s .ruleroom)) (distinct-more (ruleNumbers t) (q .number) (s .ruleapart) free); classifierapart = s .classifierapart }
+          record {
+            rules = omega arith;
+            classifiers = s .classifiers;
+            channels = s .channels;
+            ruleroom = simp length-set (s .ruleroom);
+            classifierroom = s .classifierroom;
+            ruleapart =
+                rw (more (λ (x : Rule). x .number) (t .rules) (t .rulecount) q h (s .ruleroom))
+                (distinct-more (ruleNumbers t) (q .number) (s .ruleapart) free);
+            classifierapart = s .classifierapart;
+          }
 
       on : (b : Bool) → ltb (t .rulecount) 32 ≡ b → Sound (cond b (pushedRule (t .rulecount) q t) t)
       on true e = pushed (ltb-true _ _ e)
@@ -86,7 +96,17 @@ module _ {t : Table} (s : Sound t) where
     where
       pushed : t .classifiercount < 32 → Sound (pushedClassifier (t .classifiercount) q t)
       pushed h =
-          record { rules = s .rules; classifiers = omega arith; channels = s .channels; ruleroom = s .ruleroom; classifierroom = simp length-set (s .classifierroom); ruleapart = s .ruleapart; classifierapart = rw (more (λ (x : Classifier). x .number) (t .classifiers) (t .classifiercount) q h (s .classifierroom)) (distinct-more (classifierNumbers t) (q .number) (s .classifierapart) free) }
+          record {
+            rules = s .rules;
+            classifiers = omega arith;
+            channels = s .channels;
+            ruleroom = s .ruleroom;
+            classifierroom = simp length-set (s .classifierroom);
+            ruleapart = s .ruleapart;
+            classifierapart =
+                rw (more (λ (x : Classifier). x .number) (t .classifiers) (t .classifiercount) q h (s .classifierroom))
+                (distinct-more (classifierNumbers t) (q .number) (s .classifierapart) free);
+          }
 
       on : (b : Bool) → ltb (t .classifiercount) 32 ≡ b → Sound (cond b (pushedClassifier (t .classifiercount) q t) t)
       on true e = pushed (ltb-true _ _ e)
@@ -98,7 +118,15 @@ module _ {t : Table} (s : Sound t) where
     where
       configured : Sound (withConfiguration (configurationAt msg at) t)
       configured =
-          record { rules = s .rules; classifiers = s .classifiers; channels = channels-room msg at; ruleroom = s .ruleroom; classifierroom = s .classifierroom; ruleapart = s .ruleapart; classifierapart = s .classifierapart }
+          record {
+            rules = s .rules;
+            classifiers = s .classifiers;
+            channels = channels-room msg at;
+            ruleroom = s .ruleroom;
+            classifierroom = s .classifierroom;
+            ruleapart = s .ruleapart;
+            classifierapart = s .classifierapart;
+          }
 
       on : (a b c : Bool) → cond a (isListed (ruleAt msg at .number) (ruleNumbers t)) (cond b (isListed (classifierAt msg at .number) (classifierNumbers t)) false) ≡ false
           → Sound (cond a (withRule (ruleAt msg at) t) (cond b (withClassifier (classifierAt msg at) t) (cond c (withConfiguration (configurationAt msg at) t) t)))

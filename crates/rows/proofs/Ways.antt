@@ -37,29 +37,35 @@ module _ (msg : List ℕ) (parent own at end : ℕ) (t : List ℕ) {h : Head} (e
     unfolding rowStep elementOf
     row-goes z q = sym (row-rule msg parent own at end t ∙ simp (← e, b, ← x, eq-eqb _ _ z, ← q))
 
-module _ (msg : List ℕ) (parent at len : ℕ) (t : List ℕ) {known : Known} (e : known ≡ typeUnder parent (getD msg at 0)) where
-  pub elem-unlisted : known .place ≡ 26 → stepped 0 at 8 0 ≡ elementOf msg parent at len t
+module _ (msg : List ℕ) (parent at len : ℕ) (t : List ℕ) where
+  pub elem-unlisted : {known : Known} → known ≡ typeUnder parent (getD msg at 0) → known .place ≡ 26 → stepped 0 at 8 0 ≡ elementOf msg parent at len t
   unfolding elementOf elementWith
-  elem-unlisted z = simp (← e, eq-eqb _ _ z)
+  elem-unlisted e z = simp (← e, eq-eqb _ _ z)
 
-  module _ {count : ℕ} {own : Step} (n : known .place ≡ 26 → ⊥) (q : count ≡ getD t (known .list) 0) (o : own ≡ ownTests msg known at len count) where
+  -- the element has a listed type, and `own` is what its own tests say
+  pub record Own (known : Known) (own : Step) : Type 0 where
+    pub typed : known ≡ typeUnder parent (getD msg at 0)
+    pub listed : known .place ≡ 26 → ⊥
+    pub tests : own ≡ ownTests msg known at len (getD t (known .list) 0)
+
+  module _ {known : Known} {own : Step} (o : Own known own) where
     pub elem-own : (own .bad ≡ 0 → ⊥) → own ≡ elementOf msg parent at len t
     unfolding elementOf elementWith
-    elem-own b = simp (← e, ← q, ne-eqb _ _ n, ← o, ne-eqb _ _ b)
+    elem-own b = simp (← o .typed, ne-eqb _ _ (o .listed), ← o .tests, ne-eqb _ _ b)
 
     module _ {l : Bool} (b : own .bad ≡ 0) (i : l ≡ isRow (known .length)) where
       pub elem-leaf : l ≡ false → own ≡ elementOf msg parent at len t
       unfolding elementOf elementWith
-      elem-leaf f = simp (← e, ← q, ne-eqb _ _ n, ← o, eq-eqb _ _ b, ← i, f)
+      elem-leaf f = simp (← o .typed, ne-eqb _ _ (o .listed), ← o .tests, eq-eqb _ _ b, ← i, f)
 
       module _ {inner : Fault} (y : l ≡ true) (x : inner ≡ rowOf msg (known .place) at (at + 2) (at + 2 + len) noneCounted) where
-        pub elem-inner : (inner .bad ≡ 0 → ⊥) → stepped (inner .bad) (inner .off) (known .list) count ≡ elementOf msg parent at len t
+        pub elem-inner : (inner .bad ≡ 0 → ⊥) → stepped (inner .bad) (inner .off) (known .list) (getD t (known .list) 0) ≡ elementOf msg parent at len t
         unfolding elementOf elementWith
-        elem-inner z = simp (← e, ← q, ne-eqb _ _ n, ← o, eq-eqb _ _ b, ← i, y, ← x, ne-eqb _ _ z)
+        elem-inner z = simp (← o .typed, ne-eqb _ _ (o .listed), ← o .tests, eq-eqb _ _ b, ← i, y, ← x, ne-eqb _ _ z)
 
         pub elem-row : inner .bad ≡ 0 → own ≡ elementOf msg parent at len t
         unfolding elementOf elementWith
-        elem-row z = simp (← e, ← q, ne-eqb _ _ n, ← o, eq-eqb _ _ b, ← i, y, ← x, eq-eqb _ _ z)
+        elem-row z = simp (← o .typed, ne-eqb _ _ (o .listed), ← o .tests, eq-eqb _ _ b, ← i, y, ← x, eq-eqb _ _ z)
 
 module _ (msg : List ℕ) (at : ℕ) (t : Tally) {h : Head} (e : h ≡ headAt msg at (length msg)) where
   pub top-ends : h ≡ End → record { bad = 0; off = at; next = at; tally = t } ≡ testedAt msg at t

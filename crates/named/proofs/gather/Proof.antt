@@ -16,10 +16,35 @@ use Rattle.named.proofs.gather.Tie as tie
 
 abbrev Inv-loop : tie.InvT-loop
 Inv-loop carried₀ table count k₀ carried k =
-    (k ≤ count) × (count ≤ 32) × (length (table .classifiers) ≡ 32) × (length carried ≡ 32) × (take k carried ≡ map (λ (q : Classifier). q .number) (take k (table .classifiers)))
+    (k ≤ count) × (count ≤ 32) × (length (table .classifiers) ≡ 32) × (length carried ≡ 32)
+    × (take k carried ≡ map (λ (q : Classifier). q .number) (take k (table .classifiers)))
 
 abbrev μ-loop : tie.MeasureT-loop
 μ-loop carried₀ table count k₀ carried k = count - k
+
+loop-holds : tie.Need-loop-holds Inv-loop μ-loop
+loop-holds c =
+    (search needs, limited-le 32 (c .before .args .t1 .classifiercount) (c .limited .ensures), search (needs, length-mapped), search needs, refl)
+
+-- one more number is gathered
+loop-again : tie.Need-loop-again Inv-loop μ-loop
+loop-again c =
+    let top = c .before .before in
+    let classifiers = top .before .before .args .t1 .classifiers in
+    let inv = top .loop .inv in (
+      search needs,
+      inv .1,
+      inv .2,
+      simp length-set (inv .3),
+      front-gathered (λ (q : Classifier). q .number) classifiers _ (top .loop .carried) (top .loop .k) (omega arith) (omega arith) (inv .4),
+    )
+
+-- all are
+returns : tie.Need-returns Inv-loop μ-loop
+returns c =
+    let top = c .before in
+    let all : top .loop .k ≡ top .before .limited .result = omega arith in
+    (gathered-all _ _ _ (top .loop .inv .3) (all ∙ top .before .limited .ensures) (top .loop .inv .4), top .loop .inv .3)
 
 pub gather-spec : {M : Type 1} → statement M
 gather-spec =
@@ -28,12 +53,12 @@ gather-spec =
     Inv-loop
     μ-loop
     (λ c κs. search needs)
-    (λ c. (search needs, limited-le 32 (c .before .args .t1 .classifiercount) (c .limited .ensures), search (needs, length-mapped), search needs, refl))
+    loop-holds
     (λ c. search needs)
     (λ c. search needs)
     (λ c. search needs)
     (λ c. search needs)
     (λ c. search needs)
     (λ c. search needs)
-    (λ c. (search needs, c .before .before .loop .inv .1, c .before .before .loop .inv .2, simp length-set (c .before .before .loop .inv .3), front-gathered (λ (q : Classifier). q .number) (c .before .before .before .before .args .t1 .classifiers) _ (c .before .before .loop .carried) (c .before .before .loop .k) (omega arith) (omega arith) (c .before .before .loop .inv .4)))
-    (λ c. let e : c .before .loop .k ≡ c .before .before .limited .result = omega arith in (gathered-all _ _ _ (c .before .loop .inv .3) (e ∙ c .before .before .limited .ensures) (c .before .loop .inv .4), c .before .loop .inv .3)))
+    loop-again
+    returns)

@@ -5,6 +5,18 @@ use Rattle.named.proofs.LawsLone.{placed-nothing, placed-number}
 use Rattle.named.proofs.lone_number.Statement.{statement}
 use Rattle.named.proofs.lone_number.Tie as tie
 
+-- every number is answered
+returns : tie.Need-returns
+returns c =
+    let found = c .before .before in
+    placed-nothing _ _ (found .before .before .gather .ensures .0) (found .first-unanswered .ensures) (c .enum-told .given .1)
+
+-- the first that is not
+returns-2 : tie.Need-returns-2
+returns-2 c =
+    let found = c .before .before .before .before in
+    placed-number _ _ (found .before .before .gather .ensures .0) (found .first-unanswered .ensures) (c .before .before .i .given .1) (c .named-place .ensures)
+
 pub lone-number-spec : {M : Type 1} → statement M
 lone-number-spec =
     tie.close
@@ -14,5 +26,5 @@ lone-number-spec =
     (λ c. search needs)
     (λ c. search needs)
     (λ c κs. search needs)
-    (λ c. placed-nothing _ _ (c .before .before .before .before .gather .ensures .0) (c .before .before .first-unanswered .ensures) (c .enum-told .given .1))
-    (λ c. placed-number _ _ (c .before .before .before .before .before .before .gather .ensures .0) (c .before .before .before .before .first-unanswered .ensures) (c .before .before .i .given .1) (c .named-place .ensures)))
+    returns
+    returns-2)

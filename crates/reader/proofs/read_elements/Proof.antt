@@ -5,6 +5,13 @@ use Rattle.reader.proofs.LawsSteps.{reads-refused, reads-last}
 use Rattle.reader.proofs.read_elements.Statement.{statement}
 use Rattle.reader.proofs.read_elements.Tie as tie
 
+-- test 15
+returns-2 : tie.Need-returns-2
+returns-2 c =
+    let configured = c .before .before .before .before in
+    let fine = configured .before in
+    reads-last _ (fine .before .before .before .take-up .ensures) (fine .if1 .left) (configured .configuration-at .ensures) (c .before .lone-number .ensures) (c .last-verdict .ensures)
+
 pub read-elements-spec : {M : Type 1} → statement M
 read-elements-spec =
     tie.close
@@ -14,4 +21,4 @@ read-elements-spec =
     (λ c κs. search needs)
     (λ c κs. search needs)
     (λ c κs. search needs)
-    (λ c. reads-last _ (c .before .before .before .before .before .before .before .before .take-up .ensures) (c .before .before .before .before .before .if1 .left) (c .before .before .before .before .configuration-at .ensures) (c .before .lone-number .ensures) (c .last-verdict .ensures)))
+    returns-2)

@@ -12,6 +12,11 @@ returns : tie.Need-returns
 unfolding readTable
 returns c = c .refuse .ensures ∙ simp (lt-ltb 23952 _ (c .before .if1 .taken))
 
+returns-3 : tie.Need-returns-3
+returns-3 c =
+    let read = c .before .before .before .before in
+    c .refuse2 .ensures ∙ table-refused _ _ (read .read-elements .ensures) (read .before .if1 .left) (c .before .before .verdict .given .1)
+
 pub read-table-spec : {M : Type 1} → statement M
 read-table-spec =
     tie.close
@@ -23,4 +28,4 @@ read-table-spec =
     (λ c. search needs)
     (λ c κs. search needs)
     (λ c. table-accepted _ _ (c .before .before .read-elements .ensures) (c .before .before .before .if1 .left) (c .enum-told .given .1))
-    (λ c. c .refuse2 .ensures ∙ table-refused _ _ (c .before .before .before .before .read-elements .ensures) (c .before .before .before .before .before .if1 .left) (c .before .before .verdict .given .1)))
+    returns-3)

@@ -3,13 +3,14 @@
 -- is left of the message falls.
 -- Trusts: nothing.
 use borrow.Author.Needs.{needs}
-use mathlib.Core.Path.{refl, _∙_}
+use denote.Ref.{now}
 use native.Mathlib.Omega.{arith}
 use Rattle.configurations.specs.Configurations.{configurationAt}
 use Rattle.reader.specs.Take.{withConfiguration}
-use Rattle.reader.proofs.LawsRead.{isTaken-rule, isTaken-classifier, isTaken-configuration, withElement-rule, withElement-classifier, withElement-configuration}
-use Rattle.reader.proofs.Kept.{kept-rule, kept-classifier, kept-configuration, withRule-pushed, withRule-full, withClassifier-pushed, withClassifier-full}
-use Rattle.reader.proofs.LawsTaking.{Taking, left, taking-empty, takes-all, left-less, judged-less, taking-put, taking-left, taking-on, taking-other, kind-known}
+use Rattle.reader.proofs.LawsTaking.{Taking, left, taking-empty, takes-all}
+use Rattle.reader.proofs.LawsTurn.{Turn, turns, left-less}
+use Rattle.reader.proofs.LawsArms.{knows, RuleArm, rule-less, rule-put, rule-left, ClassifierArm, classifier-less, classifier-put, classifier-left}
+use Rattle.reader.proofs.LawsArms.{taking-configuration, taking-other}
 use Rattle.reader.proofs.take_up.Statement.{statement}
 use Rattle.reader.proofs.take_up.Tie as tie
 
@@ -19,6 +20,53 @@ Inv-loop message table₀ ruleids₀ carried₀ configured₀ tested₀ table ru
 
 abbrev μ-loop : tie.MeasureT-loop
 μ-loop message table₀ ruleids₀ carried₀ configured₀ tested₀ table ruleids carried configured tested = left message tested
+
+-- a turn that has tested its element, whose type is `kind_of`'s answer
+abbrev Turn-at : tie.After-kind-of Inv-loop μ-loop → Type 0
+Turn-at c =
+    let top = c .before .before .before .before in
+    let message = now (top .before .before .before .before .args .message) in
+    let table = withConfiguration (configurationAt message (top .loop .configured)) (top .loop .table) in
+    Turn message (top .loop .ruleids) (top .loop .carried) table (top .loop .tested) (c .before .test-next .result)
+
+turn : (c : tie.After-kind-of Inv-loop μ-loop) → Turn-at c
+turn c =
+    let goes = c .before .before .before in
+    turns (goes .before .loop .inv) (goes .goes-on .ensures) (c .before .before .if1 .taken) (c .before .test-next .ensures)
+
+-- the arm of a rule, once the place for its number is judged
+abbrev RuleArm-at : tie.After-judged Inv-loop μ-loop → Type 0
+RuleArm-at c =
+    let rule = c .before .before .before .before in
+    let place = c .before .place-for in
+    RuleArm (turn (rule .before .before)) (rule .rule-at .result) (place .result) (place .last .0) (c .judged .result)
+
+rule-arm : (c : tie.After-judged Inv-loop μ-loop) → RuleArm-at c
+rule-arm c =
+    let rule = c .before .before .before .before in
+    record {
+      known = knows _ (rule .before .before .kind-of .ensures) (rule .before .match .keys1) (λ z. omega arith);
+      read = rule .rule-at .ensures;
+      placed = c .before .place-for .ensures;
+      judged = c .judged .ensures;
+    }
+
+-- the arm of a classifier, the same
+abbrev ClassifierArm-at : tie.After-judged2 Inv-loop μ-loop → Type 0
+ClassifierArm-at c =
+    let classifier = c .before .before .before in
+    let place = c .before .place-for2 in
+    ClassifierArm (turn (classifier .before .before)) (classifier .classifier-at .result) (place .result) (place .last .0) (c .judged2 .result)
+
+classifier-arm : (c : tie.After-judged2 Inv-loop μ-loop) → ClassifierArm-at c
+classifier-arm c =
+    let classifier = c .before .before .before in
+    record {
+      known = knows _ (classifier .before .before .kind-of .ensures) (classifier .before .match .keys2) (λ z. omega arith);
+      read = classifier .classifier-at .ensures;
+      placed = c .before .place-for2 .ensures;
+      judged = c .judged2 .ensures;
+    }
 
 pub take-up-spec : {M : Type 1} → statement M
 take-up-spec =
@@ -34,27 +82,27 @@ take-up-spec =
     (λ c κs. c .before .before .goes-on .ensures .on (c .before .if1 .taken) .1)
     (λ c κs. search needs)
     (λ c. search needs)
-    (λ c κs. c .before .before .before .before .before .before .before .before .loop .inv .kept (c .before .before .before .before .before .before .before .goes-on .ensures .on (c .before .before .before .before .before .before .if1 .taken) .0) .ruleidroom)
+    (λ c κs. turn (c .before .before .before .before) .kept .ruleidroom)
     (λ c κs. search needs)
     (λ c. search needs)
     (λ c. search needs)
-    (λ c. let at = c .before .before .place-for .ensures .place (c .if2 .taken) in omega arith)
-    (λ c. let known = (kind-known _ _ _ (c .before .before .before .before .before .before .before .kind-of .ensures) (λ z. omega (arith, c .before .before .before .before .before .before .match .keys1))) in judged-less _ (c .before .before .before .before .before .before .before .before .before .before .before .loop .inv) (c .before .before .before .before .before .before .before .before .before .before .goes-on .ensures) (c .before .before .before .before .before .before .before .before .before .if1 .taken) (c .before .before .before .before .before .before .before .before .test-next .ensures) (known .0) (c .before .before .place-for .ensures) (isTaken-rule _ _ _ (known .1 ∙ c .before .before .before .before .before .before .match .keys1) (c .before .before .before .before .before .rule-at .ensures) (c .before .before .before .before .before .before .before .before .before .before .before .loop .inv .kept (c .before .before .before .before .before .before .before .before .before .before .goes-on .ensures .on (c .before .before .before .before .before .before .before .before .before .if1 .taken) .0) .ruled)) (c .before .judged .ensures))
-    (λ c. let known = (kind-known _ _ _ (c .before .before .before .before .before .before .before .kind-of .ensures) (λ z. omega (arith, c .before .before .before .before .before .before .match .keys1))) in let at = c .before .before .place-for .ensures .place (c .if2 .taken) in taking-put _ (c .before .before .before .before .before .before .before .before .before .before .before .loop .inv) (c .before .before .before .before .before .before .before .before .before .before .goes-on .ensures) (c .before .before .before .before .before .before .before .before .before .if1 .taken) (c .before .before .before .before .before .before .before .before .test-next .ensures) (known .0) (c .before .before .place-for .ensures) (isTaken-rule _ _ _ (known .1 ∙ c .before .before .before .before .before .before .match .keys1) (c .before .before .before .before .before .rule-at .ensures) (c .before .before .before .before .before .before .before .before .before .before .before .loop .inv .kept (c .before .before .before .before .before .before .before .before .before .before .goes-on .ensures .on (c .before .before .before .before .before .before .before .before .before .if1 .taken) .0) .ruled)) (c .before .judged .ensures) (c .if2 .taken) (withRule-pushed _ _ (at .0) (c .if2 .taken) ∙ withElement-rule _ _ _ (known .1 ∙ c .before .before .before .before .before .before .match .keys1) (c .before .before .before .before .before .rule-at .ensures)) (kept-rule (c .before .before .before .before .before .before .before .before .before .before .before .loop .inv .kept (c .before .before .before .before .before .before .before .before .before .before .goes-on .ensures .on (c .before .before .before .before .before .before .before .before .before .if1 .taken) .0)) _ (at .0) (c .if2 .taken) (at .1)))
-    (λ c. let known = (kind-known _ _ _ (c .before .before .before .before .before .before .before .kind-of .ensures) (λ z. omega (arith, c .before .before .before .before .before .before .match .keys1))) in judged-less _ (c .before .before .before .before .before .before .before .before .before .before .before .loop .inv) (c .before .before .before .before .before .before .before .before .before .before .goes-on .ensures) (c .before .before .before .before .before .before .before .before .before .if1 .taken) (c .before .before .before .before .before .before .before .before .test-next .ensures) (known .0) (c .before .before .place-for .ensures) (isTaken-rule _ _ _ (known .1 ∙ c .before .before .before .before .before .before .match .keys1) (c .before .before .before .before .before .rule-at .ensures) (c .before .before .before .before .before .before .before .before .before .before .before .loop .inv .kept (c .before .before .before .before .before .before .before .before .before .before .goes-on .ensures .on (c .before .before .before .before .before .before .before .before .before .if1 .taken) .0) .ruled)) (c .before .judged .ensures))
-    (λ c. let known = (kind-known _ _ _ (c .before .before .before .before .before .before .before .kind-of .ensures) (λ z. omega (arith, c .before .before .before .before .before .before .match .keys1))) in taking-left _ (c .before .before .before .before .before .before .before .before .before .before .before .loop .inv) (c .before .before .before .before .before .before .before .before .before .before .goes-on .ensures) (c .before .before .before .before .before .before .before .before .before .if1 .taken) (c .before .before .before .before .before .before .before .before .test-next .ensures) (known .0) (c .before .before .place-for .ensures) (isTaken-rule _ _ _ (known .1 ∙ c .before .before .before .before .before .before .match .keys1) (c .before .before .before .before .before .rule-at .ensures) (c .before .before .before .before .before .before .before .before .before .before .before .loop .inv .kept (c .before .before .before .before .before .before .before .before .before .before .goes-on .ensures .on (c .before .before .before .before .before .before .before .before .before .if1 .taken) .0) .ruled)) (c .before .judged .ensures) (c .if2 .left) (λ h. withRule-full _ _ h ∙ withElement-rule _ _ _ (known .1 ∙ c .before .before .before .before .before .before .match .keys1) (c .before .before .before .before .before .rule-at .ensures)) (λ e. rw e (c .before .before .before .before .before .before .before .before .before .before .before .loop .inv .kept (c .before .before .before .before .before .before .before .before .before .before .goes-on .ensures .on (c .before .before .before .before .before .before .before .before .before .if1 .taken) .0))))
+    (λ c. let at = rule-arm (c .before) .placed .place (c .if2 .taken) in omega arith)
+    (λ c. rule-less _ (rule-arm (c .before)))
+    (λ c. rule-put _ (rule-arm (c .before)) (c .if2 .taken))
+    (λ c. rule-less _ (rule-arm (c .before)))
+    (λ c. rule-left _ (rule-arm (c .before)) (c .if2 .left))
     (λ c κs. search needs)
-    (λ c κs. c .before .before .before .before .before .before .before .loop .inv .kept (c .before .before .before .before .before .before .goes-on .ensures .on (c .before .before .before .before .before .if1 .taken) .0) .classifieridroom)
+    (λ c κs. turn (c .before .before .before) .kept .classifieridroom)
     (λ c κs. search needs)
     (λ c. search needs)
     (λ c. search needs)
-    (λ c. let at = c .before .before .place-for2 .ensures .place (c .if3 .taken) in omega arith)
-    (λ c. let known = (kind-known _ _ _ (c .before .before .before .before .before .before .kind-of .ensures) (λ z. omega (arith, c .before .before .before .before .before .match .keys2))) in judged-less _ (c .before .before .before .before .before .before .before .before .before .before .loop .inv) (c .before .before .before .before .before .before .before .before .before .goes-on .ensures) (c .before .before .before .before .before .before .before .before .if1 .taken) (c .before .before .before .before .before .before .before .test-next .ensures) (known .0) (c .before .before .place-for2 .ensures) (isTaken-classifier _ _ _ (known .1 ∙ c .before .before .before .before .before .match .keys2) (c .before .before .before .before .classifier-at .ensures) (c .before .before .before .before .before .before .before .before .before .before .loop .inv .kept (c .before .before .before .before .before .before .before .before .before .goes-on .ensures .on (c .before .before .before .before .before .before .before .before .if1 .taken) .0) .classified)) (c .before .judged2 .ensures))
-    (λ c. let known = (kind-known _ _ _ (c .before .before .before .before .before .before .kind-of .ensures) (λ z. omega (arith, c .before .before .before .before .before .match .keys2))) in let at = c .before .before .place-for2 .ensures .place (c .if3 .taken) in taking-put _ (c .before .before .before .before .before .before .before .before .before .before .loop .inv) (c .before .before .before .before .before .before .before .before .before .goes-on .ensures) (c .before .before .before .before .before .before .before .before .if1 .taken) (c .before .before .before .before .before .before .before .test-next .ensures) (known .0) (c .before .before .place-for2 .ensures) (isTaken-classifier _ _ _ (known .1 ∙ c .before .before .before .before .before .match .keys2) (c .before .before .before .before .classifier-at .ensures) (c .before .before .before .before .before .before .before .before .before .before .loop .inv .kept (c .before .before .before .before .before .before .before .before .before .goes-on .ensures .on (c .before .before .before .before .before .before .before .before .if1 .taken) .0) .classified)) (c .before .judged2 .ensures) (c .if3 .taken) (withClassifier-pushed _ _ (at .0) (c .if3 .taken) ∙ withElement-classifier _ _ _ (known .1 ∙ c .before .before .before .before .before .match .keys2) (c .before .before .before .before .classifier-at .ensures)) (kept-classifier (c .before .before .before .before .before .before .before .before .before .before .loop .inv .kept (c .before .before .before .before .before .before .before .before .before .goes-on .ensures .on (c .before .before .before .before .before .before .before .before .if1 .taken) .0)) _ (at .0) (c .if3 .taken) (at .1)))
-    (λ c. let known = (kind-known _ _ _ (c .before .before .before .before .before .before .kind-of .ensures) (λ z. omega (arith, c .before .before .before .before .before .match .keys2))) in judged-less _ (c .before .before .before .before .before .before .before .before .before .before .loop .inv) (c .before .before .before .before .before .before .before .before .before .goes-on .ensures) (c .before .before .before .before .before .before .before .before .if1 .taken) (c .before .before .before .before .before .before .before .test-next .ensures) (known .0) (c .before .before .place-for2 .ensures) (isTaken-classifier _ _ _ (known .1 ∙ c .before .before .before .before .before .match .keys2) (c .before .before .before .before .classifier-at .ensures) (c .before .before .before .before .before .before .before .before .before .before .loop .inv .kept (c .before .before .before .before .before .before .before .before .before .goes-on .ensures .on (c .before .before .before .before .before .before .before .before .if1 .taken) .0) .classified)) (c .before .judged2 .ensures))
-    (λ c. let known = (kind-known _ _ _ (c .before .before .before .before .before .before .kind-of .ensures) (λ z. omega (arith, c .before .before .before .before .before .match .keys2))) in taking-left _ (c .before .before .before .before .before .before .before .before .before .before .loop .inv) (c .before .before .before .before .before .before .before .before .before .goes-on .ensures) (c .before .before .before .before .before .before .before .before .if1 .taken) (c .before .before .before .before .before .before .before .test-next .ensures) (known .0) (c .before .before .place-for2 .ensures) (isTaken-classifier _ _ _ (known .1 ∙ c .before .before .before .before .before .match .keys2) (c .before .before .before .before .classifier-at .ensures) (c .before .before .before .before .before .before .before .before .before .before .loop .inv .kept (c .before .before .before .before .before .before .before .before .before .goes-on .ensures .on (c .before .before .before .before .before .before .before .before .if1 .taken) .0) .classified)) (c .before .judged2 .ensures) (c .if3 .left) (λ h. withClassifier-full _ _ h ∙ withElement-classifier _ _ _ (known .1 ∙ c .before .before .before .before .before .match .keys2) (c .before .before .before .before .classifier-at .ensures)) (λ e. rw e (c .before .before .before .before .before .before .before .before .before .before .loop .inv .kept (c .before .before .before .before .before .before .before .before .before .goes-on .ensures .on (c .before .before .before .before .before .before .before .before .if1 .taken) .0))))
-    (λ c. left-less _ (c .before .before .before .before .before .loop .inv) (c .before .before .before .before .goes-on .ensures) (c .before .before .before .if1 .taken) (c .before .before .test-next .ensures))
-    (λ c. let known = (kind-known _ _ _ (c .before .kind-of .ensures) (λ z. omega (arith, c .match .keys3))) in taking-on _ (c .before .before .before .before .before .loop .inv) (c .before .before .before .before .goes-on .ensures) (c .before .before .before .if1 .taken) (c .before .before .test-next .ensures) (known .0) (isTaken-configuration _ _ _ (known .1 ∙ c .match .keys3)) (withElement-configuration _ _ _ (known .1 ∙ c .match .keys3) refl) (kept-configuration (c .before .before .before .before .before .loop .inv .kept (c .before .before .before .before .goes-on .ensures .on (c .before .before .before .if1 .taken) .0)) _))
-    (λ c. left-less _ (c .before .before .before .before .before .loop .inv) (c .before .before .before .before .goes-on .ensures) (c .before .before .before .if1 .taken) (c .before .before .test-next .ensures))
-    (λ c. taking-other _ (c .before .before .before .before .before .loop .inv) (c .before .before .before .before .goes-on .ensures) (c .before .before .before .if1 .taken) (c .before .before .test-next .ensures) (c .before .kind-of .ensures) (c .match .rest .0 .0 .1) (c .match .rest .0 .1) (c .match .rest .1))
+    (λ c. let at = classifier-arm (c .before) .placed .place (c .if3 .taken) in omega arith)
+    (λ c. classifier-less _ (classifier-arm (c .before)))
+    (λ c. classifier-put _ (classifier-arm (c .before)) (c .if3 .taken))
+    (λ c. classifier-less _ (classifier-arm (c .before)))
+    (λ c. classifier-left _ (classifier-arm (c .before)) (c .if3 .left))
+    (λ c. left-less (turn (c .before)))
+    (λ c. taking-configuration (turn (c .before)) (knows _ (c .before .kind-of .ensures) (c .match .keys3) (λ z. omega arith)))
+    (λ c. left-less (turn (c .before)))
+    (λ c. taking-other (turn (c .before)) (c .before .kind-of .ensures) (c .match .rest .0 .0 .1) (c .match .rest .0 .1) (c .match .rest .1))
     (λ c. takes-all _ _ _ (c .before .before .loop .inv) (c .before .goes-on .ensures) (c .if1 .left)))
