@@ -1,5 +1,5 @@
 -- Contract: what it means that a contract gives a definition, and that it admits one answer.
--- Parts: the contracts of the lower crates.      Demand2: those of the entries that demand 2 names.      Exported: those of the C interface.
+-- Parts, PartsPieces: the contracts of the lower crates.      Demand2: those of the entries that demand 2 names.      Exported: those of the C interface.
 -- Demand1: what a refusal leaves, and its numbers; with Demand1Receive, Demand1Frames and, as a C host sees it, Demand1C.
 -- Demand3: a cut message completes once and is read as the uncut one.
 -- OneAnswer, OneAnswerParts, OneAnswerC: every contract admits one answer.      Values: both, of the functions under the C interface.
@@ -13,6 +13,7 @@
 -- Silence: after Disable the transmitter stays off.      Controls: wrong programs refuted.
 pub mod Contract
 pub mod Parts
+pub mod PartsPieces
 pub mod Demand1
 pub mod Demand1Receive
 pub mod Demand1Frames

@@ -6,6 +6,7 @@ use contract.Lifetimes.{Lfts}
 use denote.Ref.{now}
 use Rattle.demands.proofs.Contract.{One, only, answer}
 use Rattle.demands.proofs.Parts as parts
+use Rattle.demands.proofs.PartsPieces as pieces
 use Rattle.joining.specs.Pieces.{JoinAfter}
 use Rattle.texts.specs.Put.{Put}
 use Rattle.notices.specs.Listing.{Listing, written}
@@ -148,58 +149,58 @@ lone_number-one κs = only (parts.lone_number-gives κs)
 -- ---- collection
 
 pub begin-one : (κs : Lfts 0) → One answer (begin.Post κs)
-begin-one κs = only (parts.begin-gives κs)
+begin-one κs = only (pieces.begin-gives κs)
 
 pub is_of-one : (κs : Lfts 0) → One answer (is_of.Post κs)
-is_of-one κs = only (parts.is_of-gives κs)
+is_of-one κs = only (pieces.is_of-gives κs)
 
 pub join_pieces-one : (κs : Lfts 2) → One {L = JoinAfter} (λ x s. record { size = x; join = now (s .1 .0) }) (join_pieces.Post κs)
-join_pieces-one κs = only (parts.join_pieces-gives κs)
+join_pieces-one κs = only (pieces.join_pieces-gives κs)
 
 pub relate-one : (κs : Lfts 2) → One answer (relate.Post κs)
-relate-one κs = only (parts.relate-gives κs)
+relate-one κs = only (pieces.relate-gives κs)
 
 pub refuse-one : (κs : Lfts 1) → One answer (refuse.Post κs)
-refuse-one κs = only (parts.refuse-gives κs)
+refuse-one κs = only (pieces.refuse-gives κs)
 
 -- ---- packets
 
 pub wrong_length-one : (κs : Lfts 1) → One answer (wrong_length.Post κs)
-wrong_length-one κs = only (parts.wrong_length-gives κs)
+wrong_length-one κs = only (pieces.wrong_length-gives κs)
 
 pub read_packet-one : (κs : Lfts 1) → One answer (read_packet.Post κs)
-read_packet-one κs = only (parts.read_packet-gives κs)
+read_packet-one κs = only (pieces.read_packet-gives κs)
 
 -- ---- matching
 
 pub entry_of-one : (κs : Lfts 0) → One answer (entry_of.Post κs)
-entry_of-one κs = only (parts.entry_of-gives κs)
+entry_of-one κs = only (pieces.entry_of-gives κs)
 
 pub fits_packet-one : (κs : Lfts 1) → One answer (fits_packet.Post κs)
-fits_packet-one κs = only (parts.fits_packet-gives κs)
+fits_packet-one κs = only (pieces.fits_packet-gives κs)
 
 -- ---- texts
 
 pub put_field-one : (κs : Lfts 2) → One {L = Put} (λ x s. record { next = x; out = now (s .1 .1 .0) }) (put_field.Post κs)
-put_field-one κs = only (parts.put_field-gives κs)
+put_field-one κs = only (pieces.put_field-gives κs)
 
 pub put_address-one : (κs : Lfts 2) → One {L = Put} (λ x s. record { next = x; out = now (s .1 .1 .0) }) (put_address.Post κs)
-put_address-one κs = only (parts.put_address-gives κs)
+put_address-one κs = only (pieces.put_address-gives κs)
 
 -- ---- notices
 
 pub list_refusal-one : (κs : Lfts 1) → One {L = Listing} (λ x s. record { answer = written x; out = now (s .1 .1 .0) }) (list_refusal.Post κs)
-list_refusal-one κs = only (parts.list_refusal-gives κs)
+list_refusal-one κs = only (pieces.list_refusal-gives κs)
 
 pub list_waiting-one : (κs : Lfts 1) → One {L = Listing} (λ x s. record { answer = written x; out = now (s .1 .0) }) (list_waiting.Post κs)
-list_waiting-one κs = only (parts.list_waiting-gives κs)
+list_waiting-one κs = only (pieces.list_waiting-gives κs)
 
 -- ---- listing
 
 pub list_table-one : (κs : Lfts 1) → One {L = Listing} (λ x s. record { answer = written x; out = now (s .1 .1 .0) }) (list_table.Post κs)
-list_table-one κs = only (parts.list_table-gives κs)
+list_table-one κs = only (pieces.list_table-gives κs)
 
 -- ---- bodies
 
 pub list_body-one : (κs : Lfts 2) → One {L = Listing} (λ x s. record { answer = written x; out = now (s .1 .0) }) (list_body.Post κs)
-list_body-one κs = only (parts.list_body-gives κs)
+list_body-one κs = only (pieces.list_body-gives κs)
