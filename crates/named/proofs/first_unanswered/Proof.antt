@@ -45,40 +45,38 @@ search-holds c =
 
 -- the numbers of the next rule
 loop-holds : tie.Need-loop-holds Inv-loop μ-loop Inv-search μ-search
-loop-holds c =
-    let top = c .before .before .before in (
-      top .search .inv .0,
-      search needs,
-      search needs,
-      c .named-count .ensures .2,
+loop-holds c = (
+  c .before .before .before .search .inv .0,
+  search needs,
+  search needs,
+  c .named-count .ensures .2,
+  let top = c .before .before .before in
       lone-rule _ _ _ (top .before .limited .ensures) _ (top .search .inv .3) (c .before .before .search-test .taken) ∙ top .search .inv .4,
-    )
+)
 
 -- a number that is carried
 loop-again : tie.Need-loop-again Inv-loop μ-loop Inv-search μ-search
-loop-again c =
-    let top = Top (c .before) in
-    let start = Entry top in (
-      top .loop .inv .0,
-      search needs,
-      top .loop .inv .2,
-      top .loop .inv .3,
+loop-again c = (
+  Top (c .before) .loop .inv .0,
+  search needs,
+  Top (c .before) .loop .inv .2,
+  Top (c .before) .loop .inv .3,
+  let top = Top (c .before) in
+      let start = Entry top in
       lone-answered (start .args .t1 .classifiercount) (now (start .args .carried)) (start .pre) _ _ _ _ (top .before .named-count .ensures .0) (top .loop .inv .3)
-          (c .before .before .before .loop-test .taken) (c .before .is-listed .ensures) (not-false _ (c .if1 .left))
-          ∙ top .loop .inv .4,
-    )
+      (c .before .before .before .loop-test .taken) (c .before .is-listed .ensures) (not-false _ (c .if1 .left))
+      ∙ top .loop .inv .4,
+)
 
 -- no number of this rule is left
 search-again : tie.Need-search-again Inv-loop μ-loop Inv-search μ-search
-search-again c =
-    let top = c .before in
-    let rules = top .before .before .before .before .search .inv in (
-      top .loop .inv .0,
-      search needs,
-      rules .2,
-      rules .3,
-      lone-done _ _ _ _ _ (top .before .named-count .ensures .0) (c .loop-test .left) ∙ top .loop .inv .4,
-    )
+search-again c = (
+  c .before .loop .inv .0,
+  search needs,
+  c .before .before .before .before .before .search .inv .2,
+  c .before .before .before .before .before .search .inv .3,
+  lone-done _ _ _ _ _ (c .before .before .named-count .ensures .0) (c .loop-test .left) ∙ c .before .loop .inv .4,
+)
 
 -- no rule is left
 returns : tie.Need-returns Inv-loop μ-loop Inv-search μ-search

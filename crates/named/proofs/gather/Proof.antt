@@ -28,16 +28,15 @@ loop-holds c =
 
 -- one more number is gathered
 loop-again : tie.Need-loop-again Inv-loop μ-loop
-loop-again c =
-    let top = c .before .before in
-    let classifiers = top .before .before .args .t1 .classifiers in
-    let inv = top .loop .inv in (
-      search needs,
-      inv .1,
-      inv .2,
-      simp length-set (inv .3),
-      front-gathered (λ (q : Classifier). q .number) classifiers _ (top .loop .carried) (top .loop .k) (omega arith) (omega arith) (inv .4),
-    )
+loop-again c = (
+  search needs,
+  c .before .before .loop .inv .1,
+  c .before .before .loop .inv .2,
+  simp length-set (c .before .before .loop .inv .3),
+  let top = c .before .before in
+      let classifiers = top .before .before .args .t1 .classifiers in
+      front-gathered (λ (q : Classifier). q .number) classifiers _ (top .loop .carried) (top .loop .k) (omega arith) (omega arith) (top .loop .inv .4),
+)
 
 -- all are
 returns : tie.Need-returns Inv-loop μ-loop
