@@ -5,7 +5,7 @@
 --   timersLine-parts, classifierLine-parts
 -- Trusts: nothing.
 use Prim.Native.Nat.{ℕ}
-use mathlib.Core.Path.{_≡_, sym, ap, _∙_}
+use mathlib.Core.Path.{_≡_}
 use mathlib.Core.List.{List, _++_, append-assoc}
 use lib.ListN.{length}
 use Rattle.table.specs.declared.Rule.{Rule}
@@ -13,7 +13,7 @@ use Rattle.table.specs.declared.Classifier.{Classifier}
 use Rattle.table.specs.declared.TimerValues.{TimerValues}
 use Rattle.table.specs.declared.Table.{Table}
 use Rattle.table.specs.Table.{rulesOf, classifiersOf, channelsOf, clientsOf, numbersOf}
-use Rattle.texts.specs.Text.{ascii, field, address}
+use Rattle.texts.specs.Text.{ascii, address}
 use Rattle.listing.specs.Text.{sizesLine, ruleLine, classifierLine, timersLine}
 use Rattle.listing.specs.Writing.{fields}
 

@@ -14,7 +14,7 @@ use lib.ListN.{length, getD, replicate, getD-replicate, length-append}
 use Rattle.table.specs.declared.Rule.{Rule}
 use Rattle.table.specs.declared.Classifier.{Classifier}
 use Rattle.table.specs.declared.Table.{Table}
-use Rattle.table.specs.Table.{limitedTo, rulesOf, classifiersOf, channelsOf, clientsOf, numbersOf, emptyClient, emptyRule, emptyClassifier}
+use Rattle.table.specs.Table.{rulesOf, classifiersOf, channelsOf, clientsOf, numbersOf, emptyClient, emptyRule, emptyClassifier}
 use Rattle.table.proofs.Laws.{length-rulesOf-le, length-classifiersOf-le, length-channelsOf-le}
 use Rattle.texts.specs.Text.{digit, decimal, decimalIn, hexadecimal, field, address}
 use Rattle.texts.specs.Writing.{Short}
