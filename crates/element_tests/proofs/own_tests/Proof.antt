@@ -10,6 +10,10 @@ use Rattle.element_tests.specs.Tests.{secondCopy, wrongLength, badValue,
 use Rattle.element_tests.proofs.own_tests.Statement.{statement}
 use Rattle.element_tests.proofs.own_tests.Tie as tie
 
+returns : tie.Need-returns
+unfolding ownTests
+returns c = simp (sym (c .before .second-copy .ensures) ∙ c .if1 .taken)
+
 -- each test where it is passed, of what was lent at the start
 abbrev Start1 : tie.Else1 → tie.Start
 Start1 c = c .before .before .before
@@ -35,33 +39,23 @@ Start4 c = Start3 (c .before .before)
 roomy : (c : tie.Else4) → let a = Start4 c .args in isFull (a .known .repeats) (a .known .room) (a .count) (a .len) ≡ false
 roomy c = sym (c .before .is-full .ensures) ∙ c .if4 .left
 
-returns : tie.Need-returns
-unfolding ownTests
-returns c = simp (sym (c .before .second-copy .ensures) ∙ c .if1 .taken)
-
 returns-2 : tie.Need-returns-2
 unfolding ownTests
 returns-2 c = simp (single (c .before .before), sym (c .before .wrong-length .ensures) ∙ c .if2 .taken)
 
 returns-3 : tie.Need-returns-3
 unfolding ownTests
-returns-3 c =
-    let two = c .before .before in
-    simp (single (two .before .before), sized two, sym (c .before .bad-value .ensures) ∙ c .if3 .taken)
+returns-3 c = simp (single (c .before .before .before .before), sized (c .before .before), sym (c .before .bad-value .ensures) ∙ c .if3 .taken)
 
 returns-4 : tie.Need-returns-4
 unfolding ownTests
 returns-4 c =
-    let three = c .before .before in
-    let two = three .before .before in
-    simp (single (two .before .before), sized two, valued three, sym (c .before .is-full .ensures) ∙ c .if4 .taken)
+    simp (single (c .before .before .before .before .before .before), sized (c .before .before .before .before), valued (c .before .before), sym (c .before .is-full .ensures) ∙ c .if4 .taken)
 
 returns-5 : tie.Need-returns-5
 unfolding ownTests
 returns-5 c =
-    let three = c .before .before in
-    let two = three .before .before in
-    simp (single (two .before .before), sized two, valued three, roomy c)
+    simp (single (c .before .before .before .before .before .before), sized (c .before .before .before .before), valued (c .before .before), roomy c)
 
 -- one more still fits a byte
 add : tie.Need-add-t13

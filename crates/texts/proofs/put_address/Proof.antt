@@ -14,6 +14,13 @@ use Rattle.texts.proofs.Puts.{room-past, room-fits, put-room}
 use Rattle.texts.proofs.put_address.Statement.{statement}
 use Rattle.texts.proofs.put_address.Tie as tie
 
+-- no room
+returns : tie.Need-returns
+unfolding address
+returns c =
+    let a = c .before .before .before .before .args in
+    room-past (now (a .word)) (hexadecimal 12 (a .n)) (now (a .out)) (a .at) (sym (length-hexadecimal 12 (a .n))) (c .before .has-room .ensures) (c .if1 .taken)
+
 -- from behind the test of the room: the start, and that there is room
 abbrev Start : tie.Else1 → tie.Start
 Start c = c .before .before .before .before
@@ -22,13 +29,6 @@ fits : (c : tie.Else1) → let a = Start c .args in Fits (now (a .out)) (a .at) 
 fits c =
     let a = Start c .args in
     room-fits (now (a .word)) (hexadecimal 12 (a .n)) (now (a .out)) (a .at) (sym (length-hexadecimal 12 (a .n))) (c .before .has-room .ensures) (c .if1 .left)
-
--- no room
-returns : tie.Need-returns
-unfolding address
-returns c =
-    let a = c .before .before .before .before .args in
-    room-past (now (a .word)) (hexadecimal 12 (a .n)) (now (a .out)) (a .at) (sym (length-hexadecimal 12 (a .n))) (c .before .has-room .ensures) (c .if1 .taken)
 
 -- behind the word: where it was copied, and that there is room
 abbrev Copied : tie.After-put-hexadecimal-arg → tie.After-copy-at

@@ -13,6 +13,13 @@ use Rattle.texts.proofs.Puts.{room-past, room-fits, put-room}
 use Rattle.texts.proofs.put_field.Statement.{statement}
 use Rattle.texts.proofs.put_field.Tie as tie
 
+-- no room
+returns : tie.Need-returns
+unfolding field
+returns c =
+    let a = c .before .before .before .before .before .args in
+    room-past (now (a .word)) (decimal (a .n)) (now (a .out)) (a .at) (c .before .before .count-digits .ensures) (c .before .has-room .ensures) (c .if1 .taken)
+
 -- from behind the test of the room: the start, and that there is room
 abbrev Start : tie.Else1 → tie.Start
 Start c = c .before .before .before .before .before
@@ -21,13 +28,6 @@ fits : (c : tie.Else1) → let a = Start c .args in Fits (now (a .out)) (a .at) 
 fits c =
     let a = Start c .args in
     room-fits (now (a .word)) (decimal (a .n)) (now (a .out)) (a .at) (c .before .before .count-digits .ensures) (c .before .has-room .ensures) (c .if1 .left)
-
--- no room
-returns : tie.Need-returns
-unfolding field
-returns c =
-    let a = c .before .before .before .before .before .args in
-    room-past (now (a .word)) (decimal (a .n)) (now (a .out)) (a .at) (c .before .before .count-digits .ensures) (c .before .has-room .ensures) (c .if1 .taken)
 
 -- behind the word: where it was copied, and that there is room
 abbrev Copied : tie.After-put-decimal-arg → tie.After-copy-at

@@ -57,13 +57,16 @@ put-last-two-requires : tie.Need-put-last-two-requires
 unfolding sizesParts
 put-last-two-requires c κs = fits-rest (fits (Counted (First c .before))) (First c .put-two .ensures)
 
+abbrev Sizes : tie.After-slice-known3 → tie.After-limited3
+Sizes c = Counted (First (c .before .before .before) .before)
+
 returns : tie.Need-returns
 unfolding sizesParts
 returns c =
-    let last = c .before .before in
-    let first = First (last .before) in
-    let counted = Counted (first .before) in
-    record { wrote = wrote-same (same counted) (wrote-then (fits counted) (first .put-two .ensures) (last .put-last-two .ensures)); short = short counted }
+    record {
+      wrote = wrote-same (same (Sizes c)) (wrote-then (fits (Sizes c)) (First (c .before .before .before) .put-two .ensures) (c .before .before .put-last-two .ensures));
+      short = short (Sizes c);
+    }
 
 pub put-sizes-spec : {M : Type 1} → statement M
 put-sizes-spec =

@@ -32,13 +32,16 @@ put-last-two-requires : tie.Need-put-last-two-requires
 unfolding timersParts
 put-last-two-requires c κs = fits-rest (fits (Start (First c .before))) (First c .put-two .ensures)
 
+abbrev Lent : tie.After-slice-known3 → tie.Start
+Lent c = Start (First (c .before .before .before) .before)
+
 returns : tie.Need-returns
 unfolding timersParts
 returns c =
-    let last = c .before .before in
-    let first = First (last .before) in
-    let start = Start (first .before) in
-    record { wrote = wrote-same (timersLine-parts (start .args .timers)) (wrote-then (fits start) (first .put-two .ensures) (last .put-last-two .ensures)); short = short start }
+    record {
+      wrote = wrote-same (timersLine-parts (Lent c .args .timers)) (wrote-then (fits (Lent c)) (First (c .before .before .before) .put-two .ensures) (c .before .before .put-last-two .ensures));
+      short = short (Lent c);
+    }
 
 pub put-timers-spec : {M : Type 1} → statement M
 put-timers-spec =
