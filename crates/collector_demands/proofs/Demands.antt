@@ -26,7 +26,8 @@ use Rattle.collector_demands.specs.Demand.{Lent, called, lentAfter, told
 use Rattle.collector_demands.proofs.Refine.{Rep, rep-held, refusalOf-long, step}
 use Rattle.collector_demands.proofs.Made.{rep-idle, rep-any}
 use Rattle.collector_demands.proofs.Kept.{join-kept, whole-all}
-use Rattle.collector_demands.proofs.Once.{completed, accepts-body, silent, once, last-reply}
+use Rattle.collector_demands.proofs.Came.{accepts-body}
+use Rattle.collector_demands.proofs.Once.{completed, silent, once, last-reply}
 
 -- ---- demand 2
 

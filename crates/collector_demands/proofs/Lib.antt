@@ -1,8 +1,10 @@
 -- Missing: laws of a family of slots.
 -- Holds: a record and a slot buffer that hold a run, when a piece is put.
 -- Refine: one step does what the run says.
+-- Sound: the slots of a well-made record.
 -- Made: every well-made record is one that a history of bodies leaves.
 -- Kept: the join buffer's length, and that of a cut message.
+-- Came: the run of a cut message's bodies is the pieces that came.
 -- Once: a cut message completes once, over the runs.
 -- Demands: demand 2 from a record with nothing collected; demand 3 from any lent record.
 -- Bench: the starred example; that demand 3's hypotheses can be met, and that Apart is needed.
@@ -10,8 +12,10 @@
 pub mod Missing
 pub mod Holds
 pub mod Refine
+pub mod Sound
 pub mod Made
 pub mod Kept
+pub mod Came
 pub mod Once
 pub mod Demands
 pub mod Bench

@@ -4,76 +4,31 @@
 --   bodiesTo-run     the bodies of the filled slots are a run of their own
 --   rep-any          a record has the run of the history that it stands for
 -- Trusts: nothing.
-use Prim.Native.Nat.{ℕ, zero, suc, _+_, _*_, _-_, _≤_, _<_}
-use mathlib.Core.Path.{_≡_, refl, sym, ap, _∙_}
-use mathlib.Core.Bool.{Bool, true, false, cond, _&&_}
+use Prim.Native.Nat.{ℕ, zero, suc, _+_, _-_, _≤_, _<_}
+use mathlib.Core.Path.{_≡_, refl, sym, _∙_}
+use mathlib.Core.Bool.{Bool, true, false, cond}
 use mathlib.Core.List.{List, [], _∷_}
 use mathlib.Core.Logic.{_⊎_, inl, inr}
 use native.Mathlib.Omega.{arith}
 use native.Mathlib.Nat.{eq-or-lt-of-le, le-of-suc-le-suc}
-use borrow.Author.Tests.{eqb-true, eqb-false, eq-eqb, ne-eqb, le-ltb, leb-true, ltb-true}
-use lib.ListN.{length, getD, take, drop}
-use lib.Dec.{eqb, ltb, leb}
-use Rattle.wire.proofs.Laws.{both, clash}
-use Rattle.held.specs.Held.{isFilled, emptySlots, slotSound, soundTo, wellMade}
+use borrow.Author.Tests.{eq-eqb, ne-eqb, le-ltb, ltb-true}
+use lib.ListN.{length, getD}
+use lib.Dec.{eqb, leb}
+use Rattle.wire.proofs.Laws.{both}
+use Rattle.held.specs.Held.{isFilled, emptySlots, soundTo, wellMade}
 use Rattle.joining.specs.Pieces.{pieceAt}
-use Rattle.body_tests.specs.Refusals.{countOf, numberOf, slotOf, pieceOf, bodyRefusal}
+use Rattle.body_tests.specs.Refusals.{countOf, numberOf, bodyRefusal}
 use Rattle.collection.specs.declared.Collection.{Collection}
-use Rattle.held.proofs.Laws.{soundTo-at}
-use Rattle.joining.proofs.Laws.{length-pieceAt, length-pieceAt-le}
-use Rattle.collector_demands.specs.Runs.{Slot, empty, full, isFull, bytesOf, accepts, lookup, takes, continues, runOf, SlotHas, bodyIn, bodiesTo, standsFor, Sized}
-use Rattle.collector_demands.proofs.Holds.{Has, Slots}
+use Rattle.joining.proofs.Laws.{length-pieceAt-le}
+use Rattle.collector_demands.specs.Runs.{empty, full, accepts, lookup, continues, runOf, bodyIn, bodiesTo, standsFor, Sized}
+use Rattle.collector_demands.proofs.Sound.{slotAt, wellMade-few, wellMade-within, wellMade-short, wellMade-flag, wellMade-has}
 use Rattle.collector_demands.proofs.Refine.{Rep, idle, busy}
-
--- ---- a sound slot
-
-most-le : (t : Bool) (x : ℕ) → x ≤ cond t 1 0 → (x ≤ 1) × (x ≡ 1 → t ≡ true)
-most-le true x h = (h, λ e. refl)
-most-le false x h = (omega arith, λ e. absurd (omega arith))
 
 module _ (r : Collection) (slots : List ℕ) (made : wellMade r ≡ true) (room : 24000 ≤ length slots) where
   abbrev flag : ℕ → ℕ
   flag k = getD (r .filled) k 0
 
-  abbrev len : ℕ → ℕ
-  len k = getD (r .lengths) k 0
-
-  few : r .number ≤ 16
-  unfolding wellMade
-  few = leb-true (r .number) 16 (both (leb (r .number) 16) _ made .0)
-
-  sound : (k : ℕ) → k < 16 → slotSound (flag k) (len k) k (r .number) ≡ true
-  unfolding wellMade
-  sound k q = soundTo-at (r .filled) (r .lengths) (r .number) 16 k (both (soundTo (r .filled) (r .lengths) (r .number) 16) _ (both (leb (r .number) 16) _ made .1) .0) q
-
-  flag-most : (k : ℕ) → k < 16 → flag k ≤ cond (ltb k (r .number)) 1 0
-  flag-most k q = leb-true _ _ (both (leb (flag k) (cond (ltb k (r .number)) 1 0)) _ (sound k q) .0)
-
-  len-most : (k : ℕ) → k < 16 → len k ≤ cond (isFilled (flag k)) 1497 0
-  len-most k q = leb-true _ _ (both (leb (flag k) (cond (ltb k (r .number)) 1 0)) _ (sound k q) .1)
-
-  within : (k : ℕ) → k < 16 → isFilled (flag k) ≡ true → k < r .number
-  within k q f = ltb-true k (r .number) (most-le (ltb k (r .number)) (flag k) (flag-most k q) .1 (eqb-true (flag k) 1 f))
-
-  len-le : (k : ℕ) → k < 16 → len k ≤ 1497
-  len-le k q = go (isFilled (flag k)) (len-most k q) where
-    go : (t : Bool) → len k ≤ cond t 1497 0 → len k ≤ 1497
-    go true h = h
-    go false h = omega arith
-
-  len-empty : (k : ℕ) → k < 16 → isFilled (flag k) ≡ false → len k ≡ 0
-  len-empty k q f = let h : len k ≤ 0 = rw f at (len-most k q) in omega arith
-
-  flag-empty : (k : ℕ) → k < 16 → isFilled (flag k) ≡ false → flag k ≡ 0
-  flag-empty k q f =
-      let m = most-le (ltb k (r .number)) (flag k) (flag-most k q) .0 in
-      let ne = eqb-false (flag k) 1 f in
-      omega arith
-
   -- ---- the bodies of the filled slots
-
-  abbrev slotAt : ℕ → Slot
-  slotAt k = cond (isFilled (flag k)) (full (pieceAt slots (r .lengths) k)) empty
 
   at-same : (m : ℕ) (run : List (List ℕ)) → lookup (bodyIn r slots m ∷ run) m ≡ full (pieceAt slots (r .lengths) m)
   unfolding lookup
@@ -93,11 +48,12 @@ module _ (r : Collection) (slots : List ℕ) (made : wellMade r ≡ true) (room 
     go true e = at-other m k (bodiesTo r slots m) (λ z. omega arith) ∙ e
     go false e = e
 
-  lookup-in : (m k : ℕ) → k < m → lookup (bodiesTo r slots m) k ≡ slotAt k
+  lookup-in : (m k : ℕ) → k < m → lookup (bodiesTo r slots m) k ≡ slotAt r slots k
   unfolding bodiesTo
   lookup-in zero k q = absurd (omega arith)
   lookup-in (suc m) k q = go (isFilled (flag m)) refl (λ l. lookup-in m k l) (eq-or-lt-of-le (le-of-suc-le-suc q)) where
-    go : (t : Bool) → isFilled (flag m) ≡ t → (k < m → lookup (bodiesTo r slots m) k ≡ slotAt k) → (k ≡ m) ⊎ (k < m) → lookup (cond t (bodyIn r slots m ∷ bodiesTo r slots m) (bodiesTo r slots m)) k ≡ slotAt k
+    go : (t : Bool) → isFilled (flag m) ≡ t → (k < m → lookup (bodiesTo r slots m) k ≡ slotAt r slots k) → (k ≡ m) ⊎ (k < m)
+        → lookup (cond t (bodyIn r slots m ∷ bodiesTo r slots m) (bodiesTo r slots m)) k ≡ slotAt r slots k
     go true f i (inl e) = rw (e, f) (at-same m (bodiesTo r slots m))
     go true f i (inr l) = at-other m k (bodiesTo r slots m) (λ z. omega arith) ∙ i l
     go false f i (inl e) = rw (e, f) (lookup-out m m (omega arith))
@@ -108,9 +64,9 @@ module _ (r : Collection) (slots : List ℕ) (made : wellMade r ≡ true) (room 
   accepts-in : (k : ℕ) → k < 16 → isFilled (flag k) ≡ true → accepts (bodyIn r slots k) ≡ true
   unfolding accepts bodyRefusal
   accepts-in k q f =
-      let w = within k q f in
-      let n = few in
-      let l = len-le k q in
+      let w = wellMade-within r made k q f in
+      let n = wellMade-few r made in
+      let l = wellMade-short r made k q in
       let p = length-pieceAt-le slots (r .lengths) k in
       simp (
         le-ltb (suc (suc (suc (length (pieceAt slots (r .lengths) k))))) 3 (omega arith),
@@ -158,30 +114,13 @@ module _ (r : Collection) (slots : List ℕ) (made : wellMade r ≡ true) (room 
     go : (t : Bool) → isFilled (flag m) ≡ t → cond t (bodyIn r slots m ∷ bodiesTo r slots m) (bodiesTo r slots m) ≡ [] → (bodiesTo r slots m ≡ [] → emptySlots (r .filled) m ≡ m)
         → emptySlots (r .filled) m + cond (eqb (flag m) 0) 1 0 ≡ suc m
     go true f x i = absurd (let z : _≡_ {A = ℕ} 0 1 = cc in omega arith)
-    go false f x i = rw (eq-eqb (flag m) 0 (flag-empty m h f), i x) (omega arith)
+    go false f x i = rw (eq-eqb (flag m) 0 (wellMade-flag r made m h f), i x) (omega arith)
 
   some-filled : bodiesTo r slots 16 ≡ [] → ⊥
   unfolding wellMade
   some-filled e =
       let s = both (soundTo (r .filled) (r .lengths) (r .number) 16) _ (both (leb (r .number) 16) _ made .1) .1 in
       omega (arith, none-filled 16 (omega arith) e, ltb-true (emptySlots (r .filled) 16) 16 s)
-
-  -- ---- what the record has in each slot
-
-  has : (k : ℕ) → k < 16 → Has (slotAt k) (r .number) r slots k
-  unfolding pieceAt
-  has k q = go (isFilled (flag k)) refl where
-    go : (t : Bool) → isFilled (flag k) ≡ t → Has (cond t (full (pieceAt slots (r .lengths) k)) empty) (r .number) r slots k
-    go true f = let l = len-le k q in record {
-      has = record { flag = eqb-true (flag k) 1 f; len = sym (length-pieceAt slots (r .lengths) k (omega arith)); bytes = refl };
-      short = l;
-      within = λ x. within k q f;
-    }
-    go false f = record {
-      has = record { flag = flag-empty k q f; len = len-empty k q f; bytes = rw (len-empty k q f) refl };
-      short = len-le k q;
-      within = λ x. absurd (clash x);
-    }
 
   rep-made : Sized r → Rep (bodiesTo r slots 16) r slots
   unfolding Headed
@@ -191,7 +130,7 @@ module _ (r : Collection) (slots : List ℕ) (made : wellMade r ≡ true) (room 
     go (x ∷ xs) e =
         let h : Headed (x ∷ xs) = rw e at (headed 16) in
         busy x xs r slots
-        (record { room = room; flags = z .flags; lens = z .lens; each = λ k q. rw (← e, lookup-in 16 k q) (has k q) })
+        (record { room = room; flags = z .flags; lens = z .lens; each = λ k q. rw (← e, lookup-in 16 k q) (wellMade-has r made slots room k q) })
         (sym (h .0)) (sym (h .1)) made
 
 pub rep-idle : (r : Collection) (slots : List ℕ) → 24000 ≤ length slots → wellMade r ≡ false → Rep (runOf []) r slots

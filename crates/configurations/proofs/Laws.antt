@@ -22,25 +22,21 @@ use Rattle.children.proofs.LawsFolds.{fold-keeps}
 module _ (msg : List ℕ) (at len : ℕ) (q : Configuration) where
   pub with-timer-child : (typeAt msg at ≡ 1 → ⊥) → {t : TimerValues} → t ≡ withTimer msg at (q .timers) → withTimers t q ≡ withConfigurationChild msg at len q
   unfolding withConfigurationChild withTimer
-  with-timer-child n e = simp (e, ne-eqb _ _ n) (on (eqb (typeAt msg at) 2) (eqb (typeAt msg at) 3) (eqb (typeAt msg at) 4) (eqb (typeAt msg at) 5))
+  with-timer-child n e = simp (e, ne-eqb _ _ n) (on (eqb (typeAt msg at) 2) (eqb (typeAt msg at) 3) (eqb (typeAt msg at) 4) (eqb (typeAt msg at) 5) _ _ _ _)
     where
-      t : TimerValues
-      t = q .timers
-
-      v : ℕ
-      v = numberAt 2 msg (at + 2)
-
-      on : (b c d e : Bool)
-          → withTimers (cond b (record { tdsg1 = v; tdsg2 = t .tdsg2; tdsg3 = t .tdsg3; tdsg4 = t .tdsg4 }) (cond c (record { tdsg1 = t .tdsg1; tdsg2 = v; tdsg3 = t .tdsg3; tdsg4 = t .tdsg4 }) (cond d (record { tdsg1 = t .tdsg1; tdsg2 = t .tdsg2; tdsg3 = v; tdsg4 = t .tdsg4 }) (cond e (record { tdsg1 = t .tdsg1; tdsg2 = t .tdsg2; tdsg3 = t .tdsg3; tdsg4 = v }) t)))) q
-          ≡ cond b (withTimers (record { tdsg1 = v; tdsg2 = t .tdsg2; tdsg3 = t .tdsg3; tdsg4 = t .tdsg4 }) q) (cond c (withTimers (record { tdsg1 = t .tdsg1; tdsg2 = v; tdsg3 = t .tdsg3; tdsg4 = t .tdsg4 }) q) (cond d (withTimers (record { tdsg1 = t .tdsg1; tdsg2 = t .tdsg2; tdsg3 = v; tdsg4 = t .tdsg4 }) q) (cond e (withTimers (record { tdsg1 = t .tdsg1; tdsg2 = t .tdsg2; tdsg3 = t .tdsg3; tdsg4 = v }) q) q)))
-      on true c d e = refl
-      on false true d e = refl
-      on false false true e = refl
-      on false false false true = refl
-      on false false false false = refl
+      -- the timer values chosen, then put in, or put in and then chosen
+      on : (b c d e : Bool) (w x y z : TimerValues)
+          → withTimers (cond b w (cond c x (cond d y (cond e z (q .timers))))) q
+          ≡ cond b (withTimers w q) (cond c (withTimers x q) (cond d (withTimers y q) (cond e (withTimers z q) q)))
+      on true c d e w x y z = refl
+      on false true d e w x y z = refl
+      on false false true e w x y z = refl
+      on false false false true w x y z = refl
+      on false false false false w x y z = refl
 
   module _ (k : typeAt msg at ≡ 1) where
-    pub with-channel-child : q .channelcount < 32 → {v : ℕ} → v ≡ numberAt 4 msg (at + 2) → record { channelcount = q .channelcount + 1; channels = set (q .channels) (q .channelcount) v; timers = q .timers } ≡ withConfigurationChild msg at len q
+    pub with-channel-child : q .channelcount < 32 → {v : ℕ} → v ≡ numberAt 4 msg (at + 2)
+        → record { channelcount = q .channelcount + 1; channels = set (q .channels) (q .channelcount) v; timers = q .timers } ≡ withConfigurationChild msg at len q
     unfolding withConfigurationChild withChannel
     with-channel-child h e = simp (k, lt-ltb (q .channelcount) 32 h, e)
 
@@ -48,33 +44,24 @@ module _ (msg : List ℕ) (at len : ℕ) (q : Configuration) where
     unfolding withConfigurationChild withChannel
     full-channel-child h = simp (k, le-ltb (q .channelcount) 32 h)
 
+-- of two configurations with room, the one that is chosen has room
+cond-room : (b : Bool) (p q : Configuration) → (b ≡ true → p .channelcount ≤ 32) → q .channelcount ≤ 32 → cond b p q .channelcount ≤ 32
+cond-room true p q g h = g refl
+cond-room false p q g h = h
+
 withChannel-room : (v : ℕ) (q : Configuration) → q .channelcount ≤ 32 → withChannel v q .channelcount ≤ 32
 unfolding withChannel
-withChannel-room v q h = on (ltb (q .channelcount) 32) refl
-  where
-    on : (b : Bool) → ltb (q .channelcount) 32 ≡ b → cond b (record { channelcount = q .channelcount + 1; channels = set (q .channels) (q .channelcount) v; timers = q .timers }) q .channelcount ≤ 32
-    on true e = let l = ltb-true (q .channelcount) 32 e in omega arith
-    on false e = h
+withChannel-room v q h = cond-room (ltb (q .channelcount) 32) _ _ (λ e. let l = ltb-true (q .channelcount) 32 e in omega arith) h
 
 withConfigurationChild-room : (msg : List ℕ) (at len : ℕ) (q : Configuration) → q .channelcount ≤ 32 → withConfigurationChild msg at len q .channelcount ≤ 32
 unfolding withConfigurationChild
-withConfigurationChild-room msg at len q h = on (eqb (typeAt msg at) 1) (eqb (typeAt msg at) 2) (eqb (typeAt msg at) 3) (eqb (typeAt msg at) 4) (eqb (typeAt msg at) 5)
-  where
-    v : ℕ
-    v = numberAt 2 msg (at + 2)
-
-    t : TimerValues
-    t = q .timers
-
-    on : (a b c d e : Bool)
-        → cond a (withChannel (numberAt 4 msg (at + 2)) q) (cond b (withTimers (record { tdsg1 = v; tdsg2 = t .tdsg2; tdsg3 = t .tdsg3; tdsg4 = t .tdsg4 }) q) (cond c (withTimers (record { tdsg1 = t .tdsg1; tdsg2 = v; tdsg3 = t .tdsg3; tdsg4 = t .tdsg4 }) q) (cond d (withTimers (record { tdsg1 = t .tdsg1; tdsg2 = t .tdsg2; tdsg3 = v; tdsg4 = t .tdsg4 }) q) (cond e (withTimers (record { tdsg1 = t .tdsg1; tdsg2 = t .tdsg2; tdsg3 = t .tdsg3; tdsg4 = v }) q) q)))) .channelcount ≤ 32
-    on true b c d e = withChannel-room (numberAt 4 msg (at + 2)) q h
-    on false true c d e = h
-    on false false true d e = h
-    on false false false true e = h
-    on false false false false true = h
-    on false false false false false = h
+withConfigurationChild-room msg at len q h =
+    let is : ℕ → Bool = eqb (typeAt msg at) in
+    cond-room (is 1) _ _ (λ e. withChannel-room (numberAt 4 msg (at + 2)) q h)
+    (cond-room (is 2) _ _ (λ e. h) (cond-room (is 3) _ _ (λ e. h) (cond-room (is 4) _ _ (λ e. h) (cond-room (is 5) _ _ (λ e. h) h))))
 
 pub channels-room : (msg : List ℕ) (at : ℕ) → configurationAt msg at .channelcount ≤ 32
 unfolding configurationAt
-channels-room msg at = fold-keeps (λ (q : Configuration). q .channelcount ≤ 32) (withConfigurationChild msg) (λ a len q h. withConfigurationChild-room msg a len q h) (rowInside msg at) emptyConfiguration (omega arith)
+channels-room msg at =
+    fold-keeps (λ (q : Configuration). q .channelcount ≤ 32) (withConfigurationChild msg) (λ a len q h. withConfigurationChild-room msg a len q h)
+    (rowInside msg at) emptyConfiguration (omega arith)

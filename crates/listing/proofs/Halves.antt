@@ -1,7 +1,11 @@
 -- The lines of specs/Text.antt as they are written: two fields at a time (`fields`, specs/Writing.antt).
+--
+--   sizesParts, ruleParts, timersParts    a line's parts, with the numbers that are printed
+--   sizesLine-parts, ruleLine-parts       they make the line, where the numbers are the lengths of the lists
+--   timersLine-parts, classifierLine-parts
 -- Trusts: nothing.
 use Prim.Native.Nat.{ℕ}
-use mathlib.Core.Path.{_≡_, sym, ap, _∙_}
+use mathlib.Core.Path.{_≡_}
 use mathlib.Core.List.{List, _++_, append-assoc}
 use lib.ListN.{length}
 use Rattle.table.specs.declared.Rule.{Rule}
@@ -9,33 +13,34 @@ use Rattle.table.specs.declared.Classifier.{Classifier}
 use Rattle.table.specs.declared.TimerValues.{TimerValues}
 use Rattle.table.specs.declared.Table.{Table}
 use Rattle.table.specs.Table.{rulesOf, classifiersOf, channelsOf, clientsOf, numbersOf}
-use Rattle.texts.specs.Text.{ascii, field, address}
+use Rattle.texts.specs.Text.{ascii, address}
 use Rattle.listing.specs.Text.{sizesLine, ruleLine, classifierLine, timersLine}
 use Rattle.listing.specs.Writing.{fields}
 
--- two fields ahead of a text
-halves : (v : List ℕ) (m : ℕ) (w : List ℕ) (n : ℕ) (text : List ℕ) → field v m ++ (field w n ++ text) ≡ fields v m w n ++ text
-unfolding fields
-halves v m w n text = sym (append-assoc (field v m) (field w n) text)
+unfoldable pub sizesParts : (count rules classifiers channels : ℕ) → List ℕ
+sizesParts count r cl ch = fields (ascii "dcd ") count (ascii " rules ") r ++ (fields (ascii " classifiers ") cl (ascii " channels ") ch ++ ascii "\n")
 
-pub sizesLine-halves : (count : ℕ) (t : Table) → sizesLine count t ≡ fields (ascii "dcd ") count (ascii " rules ") (length (rulesOf t)) ++ (fields (ascii " classifiers ") (length (classifiersOf t)) (ascii " channels ") (length (channelsOf t)) ++ ascii "\n")
-unfolding sizesLine
-sizesLine-halves count t =
-    halves (ascii "dcd ") count (ascii " rules ") (length (rulesOf t)) _
-    ∙ ap (λ (l : List ℕ). fields (ascii "dcd ") count (ascii " rules ") (length (rulesOf t)) ++ l) (halves (ascii " classifiers ") (length (classifiersOf t)) (ascii " channels ") (length (channelsOf t)) (ascii "\n"))
+unfoldable pub ruleParts : (r : Rule) (clients numbers : ℕ) → List ℕ
+ruleParts r k n =
+    fields (ascii "rule ") (r .number) (ascii " priority ") (r .priority)
+    ++ (address (ascii " tunnel ") (r .tunnel) ++ (fields (ascii " clients ") k (ascii " classifiers ") n ++ ascii "\n"))
 
-pub ruleLine-halves : (r : Rule) → ruleLine r ≡ fields (ascii "rule ") (r .number) (ascii " priority ") (r .priority) ++ (address (ascii " tunnel ") (r .tunnel) ++ (fields (ascii " clients ") (length (clientsOf r)) (ascii " classifiers ") (length (numbersOf r)) ++ ascii "\n"))
-unfolding ruleLine
-ruleLine-halves r =
-    halves (ascii "rule ") (r .number) (ascii " priority ") (r .priority) _
-    ∙ ap (λ (l : List ℕ). fields (ascii "rule ") (r .number) (ascii " priority ") (r .priority) ++ (address (ascii " tunnel ") (r .tunnel) ++ l)) (halves (ascii " clients ") (length (clientsOf r)) (ascii " classifiers ") (length (numbersOf r)) (ascii "\n"))
+unfoldable pub timersParts : TimerValues → List ℕ
+timersParts v = fields (ascii "timers ") (v .tdsg1) (ascii " ") (v .tdsg2) ++ (fields (ascii " ") (v .tdsg3) (ascii " ") (v .tdsg4) ++ ascii "\n")
 
-pub classifierLine-halves : (cl : Classifier) → classifierLine cl ≡ fields (ascii "classifier ") (cl .number) (ascii " priority ") (cl .priority) ++ ascii "\n"
-unfolding classifierLine
-classifierLine-halves cl = halves (ascii "classifier ") (cl .number) (ascii " priority ") (cl .priority) (ascii "\n")
+pub sizesLine-parts : (count : ℕ) (t : Table) {r cl ch : ℕ}
+    → r ≡ length (rulesOf t) → cl ≡ length (classifiersOf t) → ch ≡ length (channelsOf t) → sizesParts count r cl ch ≡ sizesLine count t
+unfolding sizesLine sizesParts fields
+sizesLine-parts count t p q s = rw (p, q, s) (simp append-assoc)
 
-pub timersLine-halves : (v : TimerValues) → timersLine v ≡ fields (ascii "timers ") (v .tdsg1) (ascii " ") (v .tdsg2) ++ (fields (ascii " ") (v .tdsg3) (ascii " ") (v .tdsg4) ++ ascii "\n")
-unfolding timersLine
-timersLine-halves v =
-    halves (ascii "timers ") (v .tdsg1) (ascii " ") (v .tdsg2) _
-    ∙ ap (λ (l : List ℕ). fields (ascii "timers ") (v .tdsg1) (ascii " ") (v .tdsg2) ++ l) (halves (ascii " ") (v .tdsg3) (ascii " ") (v .tdsg4) (ascii "\n"))
+pub ruleLine-parts : (r : Rule) {k n : ℕ} → k ≡ length (clientsOf r) → n ≡ length (numbersOf r) → ruleParts r k n ≡ ruleLine r
+unfolding ruleLine ruleParts fields
+ruleLine-parts r p q = rw (p, q) (simp append-assoc)
+
+pub classifierLine-parts : (cl : Classifier) → fields (ascii "classifier ") (cl .number) (ascii " priority ") (cl .priority) ++ ascii "\n" ≡ classifierLine cl
+unfolding classifierLine fields
+classifierLine-parts cl = simp append-assoc
+
+pub timersLine-parts : (v : TimerValues) → timersParts v ≡ timersLine v
+unfolding timersLine timersParts fields
+timersLine-parts v = simp append-assoc

@@ -14,7 +14,7 @@ use lib.ListN.{length, getD, replicate, getD-replicate, length-append}
 use Rattle.table.specs.declared.Rule.{Rule}
 use Rattle.table.specs.declared.Classifier.{Classifier}
 use Rattle.table.specs.declared.Table.{Table}
-use Rattle.table.specs.Table.{limitedTo, rulesOf, classifiersOf, channelsOf, clientsOf, numbersOf, emptyClient, emptyRule, emptyClassifier}
+use Rattle.table.specs.Table.{rulesOf, classifiersOf, channelsOf, clientsOf, numbersOf, emptyClient, emptyRule, emptyClassifier}
 use Rattle.table.proofs.Laws.{length-rulesOf-le, length-classifiersOf-le, length-channelsOf-le}
 use Rattle.texts.specs.Text.{digit, decimal, decimalIn, hexadecimal, field, address}
 use Rattle.texts.specs.Writing.{Short}
@@ -35,7 +35,8 @@ pub record Ranged (count : ℕ) (t : Table) : Type 0 where
   pub tdsg4 : t .timers .tdsg4 < 65536
 
 -- as many lines as the list has entries, each of at most `most` bytes
-linesOf-short : {A : Type 0} (most : ℕ) (line : A → List ℕ) (d : A) (l : List A) (limit : ℕ) → length l ≤ limit → ((i : ℕ) → i < length l → Short most (line (getD l i d))) → Short (most * limit) (linesOf line l)
+linesOf-short : {A : Type 0} (most : ℕ) (line : A → List ℕ) (d : A) (l : List A) (limit : ℕ)
+    → length l ≤ limit → ((i : ℕ) → i < length l → Short most (line (getD l i d))) → Short (most * limit) (linesOf line l)
 unfolding linesOf
 linesOf-short most line d [] limit few h = record { bytes = omega arith }
 linesOf-short most line d (x ∷ xs) zero few h = absurd (omega arith)
@@ -47,15 +48,27 @@ linesOf-short most line d (x ∷ xs) (suc limit) few h =
 pub listing-fits : {count : ℕ} {t : Table} → Ranged count t → length (tableText count t) ≤ 3755
 unfolding tableText
 listing-fits {count} {t} r =
-    join-short 44 3711 (sizesLine-short count t (r .change))
-    (join-short 2112 1599 (linesOf-short 66 ruleLine emptyRule (rulesOf t) 32 (length-rulesOf-le t) (λ i q. ruleLine-short _ (r .number i q) (r .priority i q)))
-    (join-short 960 639 (linesOf-short 30 classifierLine emptyClassifier (classifiersOf t) 32 (length-classifiersOf-le t) (λ i q. classifierLine-short _ (r .classifier i q) (r .rank i q)))
-    (join-short 608 31 (linesOf-short 19 channelLine 0 (channelsOf t) 32 (length-channelsOf-le t) (λ i q. channelLine-short _ (r .channel i q))) (timersLine-short (t .timers) (r .tdsg1) (r .tdsg2) (r .tdsg3) (r .tdsg4))))) .bytes
+    let sizes = sizesLine-short count t (r .change) in
+    let rules = linesOf-short 66 ruleLine emptyRule (rulesOf t) 32 (length-rulesOf-le t) (λ i q. ruleLine-short _ (r .number i q) (r .priority i q)) in
+    let classifiers = linesOf-short 30 classifierLine emptyClassifier (classifiersOf t) 32 (length-classifiersOf-le t) (λ i q. classifierLine-short _ (r .classifier i q) (r .rank i q)) in
+    let channels = linesOf-short 19 channelLine 0 (channelsOf t) 32 (length-channelsOf-le t) (λ i q. channelLine-short _ (r .channel i q)) in
+    let timers = timersLine-short (t .timers) (r .tdsg1) (r .tdsg2) (r .tdsg3) (r .tdsg4) in
+    join-short 44 3711 sizes (join-short 2112 1599 rules (join-short 960 639 classifiers (join-short 608 31 channels timers))) .bytes
 
 -- a table with every list full and every number at its largest
 longestRule : Rule
 longestRule =
-    record { number = 255; priority = 255; ucidcount = 16; clientcount = 8; numbercount = 8; ucids = replicate 16 0; numbers = replicate 8 1; tunnel = 0; clients = replicate 8 emptyClient }
+    record {
+      number = 255;
+      priority = 255;
+      ucidcount = 16;
+      clientcount = 8;
+      numbercount = 8;
+      ucids = replicate 16 0;
+      numbers = replicate 8 1;
+      tunnel = 0;
+      clients = replicate 8 emptyClient;
+    }
 
 longestClassifier : Classifier
 longestClassifier =
@@ -64,7 +77,15 @@ longestClassifier =
 pub longest : Table
 unfolding longestRule longestClassifier
 longest =
-    record { rulecount = 32; classifiercount = 32; channelcount = 32; timers = record { tdsg1 = 65535; tdsg2 = 65535; tdsg3 = 65535; tdsg4 = 65535 }; channels = replicate 32 4294967295; classifiers = replicate 32 longestClassifier; rules = replicate 32 longestRule }
+    record {
+      rulecount = 32;
+      classifiercount = 32;
+      channelcount = 32;
+      timers = record { tdsg1 = 65535; tdsg2 = 65535; tdsg3 = 65535; tdsg4 = 65535 };
+      channels = replicate 32 4294967295;
+      classifiers = replicate 32 longestClassifier;
+      rules = replicate 32 longestRule;
+    }
 
 pub longest-ranged : Ranged 255 longest
 unfolding longest longestRule longestClassifier rulesOf classifiersOf channelsOf
@@ -87,13 +108,19 @@ linesOf-replicate : {A : Type 0} (line : A → List ℕ) (n : ℕ) (x : A) → l
 unfolding linesOf
 linesOf-replicate line zero x = omega arith
 linesOf-replicate line (suc n) x =
-    length-append (line x) (linesOf line (replicate n x)) ∙ ap (λ (k : ℕ). length (line x) + k) (linesOf-replicate line n x) ∙ sym (suc-mul n (length (line x)) ∙ add-comm (n * length (line x)) (length (line x)))
+    length-append (line x) (linesOf line (replicate n x)) ∙ ap (λ (k : ℕ). length (line x) + k) (linesOf-replicate line n x)
+    ∙ sym (suc-mul n (length (line x)) ∙ add-comm (n * length (line x)) (length (line x)))
 
 -- the lengths of a text's five parts, computed
-parts : (a b c d e : List ℕ) (l m n o p : ℕ) → length a ≡ l → length b ≡ m → length c ≡ n → length d ≡ o → length e ≡ p → length (a ++ (b ++ (c ++ (d ++ e)))) ≡ l + (m + (n + (o + p)))
+parts : (a b c d e : List ℕ) (l m n o p : ℕ)
+    → length a ≡ l → length b ≡ m → length c ≡ n → length d ≡ o → length e ≡ p → length (a ++ (b ++ (c ++ (d ++ e)))) ≡ l + (m + (n + (o + p)))
 parts a b c d e l m n o p f g h i j = simp length-append (omega arith)
 
 pub listing-longest : length (tableText 255 longest) ≡ 3755
 unfolding longest longestRule longestClassifier rulesOf classifiersOf channelsOf clientsOf numbersOf digit decimal decimalIn hexadecimal field address sizesLine ruleLine classifierLine channelLine timersLine tableText
 listing-longest =
-    parts (sizesLine 255 longest) (linesOf ruleLine (rulesOf longest)) (linesOf classifierLine (classifiersOf longest)) (linesOf channelLine (channelsOf longest)) (timersLine (longest .timers)) 44 2112 960 608 31 refl (linesOf-replicate ruleLine 32 longestRule) (linesOf-replicate classifierLine 32 longestClassifier) (linesOf-replicate channelLine 32 4294967295) refl
+    let rules = linesOf-replicate ruleLine 32 longestRule in
+    let classifiers = linesOf-replicate classifierLine 32 longestClassifier in
+    let channels = linesOf-replicate channelLine 32 4294967295 in
+    parts (sizesLine 255 longest) (linesOf ruleLine (rulesOf longest)) (linesOf classifierLine (classifiersOf longest)) (linesOf channelLine (channelsOf longest)) (timersLine (longest .timers))
+    44 2112 960 608 31 refl rules classifiers channels refl

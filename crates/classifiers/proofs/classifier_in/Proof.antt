@@ -2,9 +2,11 @@
 -- The loop keeps that the fold from `at` on, over what it has, is the fold from the start. Every arm is one more step of that fold; what is left falls.
 -- Trusts: nothing.
 use borrow.Author.Needs.{needs}
-use Prim.Native.Nat.{_+_, _-_, _<_}
+use Prim.Native.Nat.{ℕ, _+_, _-_, _≤_, _<_}
 use mathlib.Core.Path.{_≡_, _∙_}
+use mathlib.Core.List.{List}
 use denote.Ref.{now}
+use lib.ListN.{length}
 use native.Mathlib.Omega.{arith}
 use Rattle.numbers.proofs.Laws.{numberAt-one}
 use Rattle.table.specs.Table.{emptyClassifier}
@@ -18,19 +20,47 @@ use Rattle.classifiers.proofs.classifier_in.Statement.{statement}
 use Rattle.classifiers.proofs.classifier_in.Tie as tie
 
 abbrev Inv-loop : tie.InvT-loop
-Inv-loop message from end classifier₀ at₀ classifier at = rowFold (withClassifierChild message) (rowIn message at end) classifier ≡ rowFold (withClassifierChild message) (rowIn message from end) emptyClassifier
+Inv-loop message from end classifier₀ at₀ classifier at =
+    rowFold (withClassifierChild message) (rowIn message at end) classifier ≡ rowFold (withClassifierChild message) (rowIn message from end) emptyClassifier
 
 abbrev μ-loop : tie.MeasureT-loop
 μ-loop message from end classifier₀ at₀ classifier at = end - at
 
--- a turn: the child whose type has been read is taken up, and what is left falls
-module _ (c : tie.After-shared-slice-known2 Inv-loop μ-loop) where
-  less : let a = c .before .before .before .before .before .before .before .before .args in let i = c .before .before .before .before .before .loop in a .end - (i .at + 2 + c .before .before .len .given .0 .0) < a .end - i .at
-  less = item-less _ _ _ (c .before .before .before .before .read-head .ensures) (c .before .before .len .given .1)
+-- a turn that found a child: its message, its place, its length, and where the row begins and ends
+module _ (c : tie.After-len Inv-loop μ-loop) where
+  abbrev Turn : tie.At-loop Inv-loop μ-loop
+  Turn = c .before .before .before
 
-  turn : {classifier : Classifier} → let a = c .before .before .before .before .before .before .before .before .args in let i = c .before .before .before .before .before .loop in let len = c .before .before .len .given .0 .0 in classifier ≡ withClassifierChild (now (a .message)) (i .at) len (i .classifier)
-      → rowFold (withClassifierChild (now (a .message))) (rowIn (now (a .message)) (i .at + 2 + len) (a .end)) classifier ≡ rowFold (withClassifierChild (now (a .message))) (rowIn (now (a .message)) (a .from) (a .end)) emptyClassifier
-  turn e = fold-item _ _ _ _ _ (c .before .before .before .before .read-head .ensures) (c .before .before .len .given .1) e ∙ c .before .before .before .before .before .loop .inv
+  abbrev Start : tie.Start Inv-loop μ-loop
+  Start = Turn .before .before .before
+
+  abbrev Msg : List ℕ
+  Msg = now (Start .args .message)
+
+  abbrev At : ℕ
+  At = Turn .loop .at
+
+  abbrev Len : ℕ
+  Len = c .len .given .0 .0
+
+  abbrev End : ℕ
+  End = Start .args .end
+
+  -- the child lies in the row and in the message
+  fits : (At + 2 + Len ≤ End) × (At + 2 + Len ≤ length Msg)
+  fits = let f = item-fits _ _ _ (c .before .before .read-head .ensures) (c .len .given .1) in (f .0, f .1)
+
+  -- what is left falls, and the child is taken up
+  less : End - (At + 2 + Len) < End - At
+  less = item-less _ _ _ (c .before .before .read-head .ensures) (c .len .given .1)
+
+  turn : {classifier : Classifier} → classifier ≡ withClassifierChild Msg At Len (Turn .loop .classifier)
+      → rowFold (withClassifierChild Msg) (rowIn Msg (At + 2 + Len) End) classifier ≡ rowFold (withClassifierChild Msg) (rowIn Msg (Start .args .from) End) emptyClassifier
+  turn e = fold-item _ _ _ _ _ (c .before .before .read-head .ensures) (c .len .given .1) e ∙ Turn .loop .inv
+
+-- the child, seen from where its type is known
+abbrev Child : tie.After-shared-slice-known2 Inv-loop μ-loop → tie.After-len Inv-loop μ-loop
+Child c = c .before .before
 
 pub classifier-in-spec : {M : Type 1} → statement M
 classifier-in-spec =
@@ -43,17 +73,17 @@ classifier-in-spec =
     (λ c κs. search needs)
     (λ c. search needs)
     (λ c. fold-stop _ _ _ _ _ (c .before .read-head .ensures) (no-value (c .match .keys2)) ∙ c .before .before .loop .inv)
-    (λ c. let fits = item-fits _ _ _ (c .before .before .before .before .read-head .ensures) (c .before .before .len .given .1) in omega arith)
-    (λ c. let fits = item-fits _ _ _ (c .before .before .before .before .read-head .ensures) (c .before .before .len .given .1) in omega arith)
-    (λ c. let fits = item-fits _ _ _ (c .before .before .before .before .read-head .ensures) (c .before .before .len .given .1) in omega arith)
+    (λ c. omega (arith, fits (Child c) .1))
+    (λ c. omega (arith, fits (Child c) .1))
+    (λ c. omega (arith, fits (Child c) .1))
     (λ c κs. search needs)
-    (λ c. less (c .before .before))
-    (λ c. turn (c .before .before) (withClassifierChild-number _ _ _ _ (c .before .match2 .keys1) (c .number2 .ensures)))
+    (λ c. less (Child (c .before .before)))
+    (λ c. turn (Child (c .before .before)) (withClassifierChild-number _ _ _ _ (c .before .match2 .keys1) (c .number2 .ensures)))
     (λ c κs. search needs)
-    (λ c. less (c .before .before))
-    (λ c. turn (c .before .before) (withClassifierChild-priority _ _ _ _ (c .before .match2 .keys2) (c .number1 .ensures ∙ numberAt-one _ _)))
+    (λ c. less (Child (c .before .before)))
+    (λ c. turn (Child (c .before .before)) (withClassifierChild-priority _ _ _ _ (c .before .match2 .keys2) (c .number1 .ensures ∙ numberAt-one _ _)))
     (λ c κs. search needs)
-    (λ c. less (c .before .before))
-    (λ c. turn (c .before .before) (withClassifierChild-part _ _ _ _ (c .before .match2 .keys3) (c .with-part .ensures)))
-    (λ c. less (c .before))
-    (λ c. turn (c .before) (withClassifierChild-other _ _ _ _ (c .match2 .rest .0 .0 .1) (c .match2 .rest .0 .1) (c .match2 .rest .1))))
+    (λ c. less (Child (c .before .before)))
+    (λ c. turn (Child (c .before .before)) (withClassifierChild-part _ _ _ _ (c .before .match2 .keys3) (c .with-part .ensures)))
+    (λ c. less (Child (c .before)))
+    (λ c. turn (Child (c .before)) (withClassifierChild-other _ _ _ _ (c .match2 .rest .0 .0 .1) (c .match2 .rest .0 .1) (c .match2 .rest .1))))

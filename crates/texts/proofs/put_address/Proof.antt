@@ -17,24 +17,52 @@ use Rattle.texts.proofs.put_address.Tie as tie
 -- no room
 returns : tie.Need-returns
 unfolding address
-returns c = let a = c .before .before .before .before .args in room-past (now (a .word)) (hexadecimal 12 (a .n)) (now (a .out)) (a .at) (sym (length-hexadecimal 12 (a .n))) (c .before .has-room .ensures) (c .if1 .taken)
+returns c =
+    let a = c .before .before .before .before .args in
+    room-past (now (a .word)) (hexadecimal 12 (a .n)) (now (a .out)) (a .at) (sym (length-hexadecimal 12 (a .n))) (c .before .has-room .ensures) (c .if1 .taken)
 
--- there is room
-fits : (c : tie.After-put-hexadecimal-arg) → (let a = c .before .before .before .before .before .before .before .before .before .args in Fits (now (a .out)) (a .at) (now (a .word) ++ hexadecimal 12 (a .n)))
-fits c = let a = c .before .before .before .before .before .before .before .before .before .args in room-fits (now (a .word)) (hexadecimal 12 (a .n)) (now (a .out)) (a .at) (sym (length-hexadecimal 12 (a .n))) (c .before .before .before .before .before .before .has-room .ensures) (c .before .before .before .before .before .if1 .left)
+-- from behind the test of the room: the start, and that there is room
+abbrev Start : tie.Else1 → tie.Start
+Start c = c .before .before .before .before
+
+fits : (c : tie.Else1) → let a = Start c .args in Fits (now (a .out)) (a .at) (now (a .word) ++ hexadecimal 12 (a .n))
+fits c =
+    let a = Start c .args in
+    room-fits (now (a .word)) (hexadecimal 12 (a .n)) (now (a .out)) (a .at) (sym (length-hexadecimal 12 (a .n))) (c .before .has-room .ensures) (c .if1 .left)
+
+-- behind the word: where it was copied, and that there is room
+abbrev Copied : tie.After-put-hexadecimal-arg → tie.After-copy-at
+Copied c = c .before .before .before
+
+abbrev Room : tie.After-copy-at → tie.Else1
+Room c = c .before .before
 
 add-put-hexadecimal : tie.Need-add-put-hexadecimal
-add-put-hexadecimal c = let a = c .before .before .before .before .before .before .before .before .before .args in omega (arith, fits c .room, length-append (now (a .word)) (hexadecimal 12 (a .n)))
+add-put-hexadecimal c =
+    let room = Room (Copied c) in
+    let a = Start room .args in
+    omega (arith, fits room .room, length-append (now (a .word)) (hexadecimal 12 (a .n)))
 
 put-hexadecimal-requires : tie.Need-put-hexadecimal-requires
-put-hexadecimal-requires c κs = fits-rest (fits c) (record { bytes = c .before .before .before .copy-at .ensures; place = refl })
+put-hexadecimal-requires c κs = fits-rest (fits (Room (Copied c))) (record { bytes = Copied c .copy-at .ensures; place = refl })
 
 -- the text
 returns-2 : tie.Need-returns-2
 unfolding address
 returns-2 c =
-    put-room (fits (c .before .before .before)) (wrote-then (fits (c .before .before .before)) (record { bytes = c .before .before .before .before .before .before .copy-at .ensures; place = refl }) (c .before .before .put-hexadecimal .ensures))
+    let put = c .before .before in
+    let copied = Copied (put .before) in
+    let room = fits (Room copied) in
+    put-room room (wrote-then room (record { bytes = copied .copy-at .ensures; place = refl }) (put .put-hexadecimal .ensures))
 
 pub put-address-spec : {M : Type 1} → statement M
 put-address-spec =
-    tie.close (tie.spec (λ c κs. search needs) returns (λ c κs. search needs) add-put-hexadecimal put-hexadecimal-requires (λ c. search needs) returns-2)
+    tie.close
+    (tie.spec
+    (λ c κs. search needs)
+    returns
+    (λ c κs. search needs)
+    add-put-hexadecimal
+    put-hexadecimal-requires
+    (λ c. search needs)
+    returns-2)

@@ -1,76 +1,70 @@
--- `tunnel::match_place` gives `matchPlace`. A frame that is no IPv4 packet matches nothing; else the invariant is that the walk from `i` on ends as the whole walk does; `n - i` falls.
+-- `tunnel::match_place` gives `matchPlace`. A frame that is no IPv4 packet matches nothing; else the invariant is that the walk from `i` on
+-- ends as the whole walk does; `n - i` falls.
 -- Trusts: nothing.
 use borrow.Author.Needs.{needs}
 use borrow.Author.Tests.{not-true, not-false}
-use Prim.Native.Nat.{ℕ, _≤_, _-_}
-use mathlib.Core.Path.{_≡_, refl, sym, ap, _∙_, fun-ext}
-use mathlib.Core.Bool.{Bool, true, false, _&&_}
-use mathlib.Core.List.{List}
+use Prim.Native.Nat.{_≤_, _-_}
+use mathlib.Core.Path.{_≡_, sym, _∙_}
+use mathlib.Core.Bool.{true}
 use native.Mathlib.Omega.{arith}
 use lib.ListN.{length, take, drop}
-use Rattle.table.proofs.Laws.{limitedTo-le, length-mapped, length-classifiersOf}
-use Rattle.table.specs.declared.Rule.{Rule}
-use Rattle.table.specs.declared.Classifier.{Classifier}
-use Rattle.table.specs.declared.Table.{Table}
-use Rattle.table.specs.Table.{limitedTo, classifiersOf}
-use Rattle.order.specs.declared.Best.{Best}
-use Rattle.order.specs.Best.{bestPlace}
-use Rattle.order.proofs.Places.{bestPlace-none}
-use Rattle.order.proofs.Scan.{nothing, scan, scan-more, scan-end, scan-none, scan-some}
-use Rattle.packets.specs.declared.Packet.{Packet}
-use Rattle.listed.specs.Listed.{namesNumber}
-use Rattle.matching.specs.Match.{matchesFrame}
-use Rattle.tunnel.specs.Judge.{matchPlace}
-use Rattle.packets.specs.Packets.{packetOf}
-use Rattle.matching.specs.Entry.{entryOf, fitsPacket}
-use Rattle.matching.proofs.Entries.{matchesEntry-ipv4, matchesEntry-of, matchesFrame-not}
+use Rattle.table.proofs.Laws.{limitedTo-le, length-mapped}
+use Rattle.table.specs.Table.{classifiersOf}
+use Rattle.order.proofs.Scan.{nothing, scan-more, scan-end}
+use Rattle.tunnel.proofs.Walk.{walk, matchPlace-foreign, matchPlace-none, matchPlace-some}
 use Rattle.tunnel.proofs.match_place.Statement.{statement}
 use Rattle.tunnel.proofs.match_place.Tie as tie
 
--- what a classifier must pass: the packet and the rule
-abbrev passes : List ℕ → Packet → Rule → Classifier → Bool
-passes frame packet rule cl = fitsPacket frame packet (entryOf cl) && namesNumber rule (cl .number)
-
-abbrev walk : List ℕ → Packet → Rule → Best → ℕ → List Classifier → Best
-walk frame packet rule b at cs = scan (λ cl. cl .priority) (λ cl. cl .number) (passes frame packet rule) b at cs
-
 abbrev Inv-loop : tie.InvT-loop
 Inv-loop rule frame table n packet best₀ i₀ best i =
-    (i ≤ n) × (n ≤ 32) × (length (table .classifiers) ≡ 32) × (walk frame packet rule best i (drop i (take n (table .classifiers))) ≡ walk frame packet rule nothing 0 (classifiersOf table))
+    (i ≤ n) × (n ≤ 32) × (length (table .classifiers) ≡ 32)
+    × (walk frame packet rule best i (drop i (take n (table .classifiers))) ≡ walk frame packet rule nothing 0 (classifiersOf table))
 
 abbrev μ-loop : tie.MeasureT-loop
 μ-loop rule frame table n packet best₀ i₀ best i = n - i
 
-module _ (t : Table) (rule : Rule) (frame : List ℕ) (long : length (t .classifiers) ≡ 32) where
-  few : length (classifiersOf t) ≤ 32
-  few = rw (length-classifiersOf t long) (limitedTo-le 32 (t .classifiercount))
+-- the array has 32 places
+full : (c : tie.Start Inv-loop μ-loop) → length (c .args .t1 .classifiers) ≡ 32
+full c = search (needs, length-mapped)
 
-  module _ (p : Packet) (e : p ≡ packetOf frame) where
-    -- no IPv4 packet: nothing matches
-    foreign : (n : ℕ) → n ≡ limitedTo 32 (t .classifiercount) → p .ipv4 ≡ false → n ≡ matchPlace t rule frame
-    unfolding matchPlace
-    foreign n en h =
-        en ∙ sym (length-classifiersOf t long) ∙ sym (bestPlace-none (λ cl. cl .priority) (λ cl. cl .number) (λ cl. matchesFrame frame cl && namesNumber rule (cl .number)) (classifiersOf t) (λ cl m. rw (matchesFrame-not frame p e h cl)))
-
-    same : p .ipv4 ≡ true → matchPlace t rule frame ≡ bestPlace (λ cl. cl .priority) (λ cl. cl .number) (passes frame p rule) (classifiersOf t)
-    unfolding matchPlace
-    same h =
-        ap (λ (ok : Classifier → Bool). bestPlace (λ cl. cl .priority) (λ cl. cl .number) ok (classifiersOf t))
-        (fun-ext (λ cl. ap (λ (b : Bool). b && namesNumber rule (cl .number)) (sym (matchesEntry-of frame cl) ∙ matchesEntry-ipv4 frame p e h (entryOf cl))))
-
-    module _ (h : p .ipv4 ≡ true) (b : Best) (eb : b ≡ walk frame p rule nothing 0 (classifiersOf t)) where
-      none : (n : ℕ) → n ≡ limitedTo 32 (t .classifiercount) → b .place ≡ 32 → n ≡ matchPlace t rule frame
-      none n en eq =
-          en ∙ sym (length-classifiersOf t long) ∙ sym (same h ∙ scan-none (λ cl. cl .priority) (λ cl. cl .number) (passes frame p rule) (classifiersOf t) few (sym (ap (λ (x : Best). x .place) eb) ∙ eq))
-
-      some : (b .place ≡ 32 → ⊥) → b .place ≡ matchPlace t rule frame
-      some ne =
-          ap (λ (x : Best). x .place) eb ∙ sym (same h ∙ scan-some (λ cl. cl .priority) (λ cl. cl .number) (passes frame p rule) (classifiersOf t) few (λ eq. ne (ap (λ (x : Best). x .place) eb ∙ eq)) .0)
+returns : tie.Need-returns Inv-loop μ-loop
+returns c =
+    let read = c .before .before in
+    let foreigner = not-true (read .read-packet .result .ipv4) (c .if1 .taken) in
+    matchPlace-foreign _ _ _ (full (read .before .before .before)) _ (read .read-packet .ensures) _ (read .before .limited .ensures) foreigner
 
 loop-holds : tie.Need-loop-holds Inv-loop μ-loop
 unfolding classifiersOf
 loop-holds c =
-    (search needs, rw (c .before .before .before .limited .ensures) (limitedTo-le 32 (c .before .before .before .before .before .args .t1 .classifiercount)), search (needs, length-mapped), rw (c .before .before .before .limited .ensures))
+    let counted = c .before .before .before in
+    let start = counted .before .before in
+    (search needs, rw (counted .limited .ensures) (limitedTo-le 32 (start .args .t1 .classifiercount)), full start, rw (counted .limited .ensures))
+
+loop-again : tie.Need-loop-again Inv-loop μ-loop
+loop-again c =
+    let turn = c .before .before in
+    let inv = turn .before .loop .inv in
+    (search needs, inv .1, inv .2, rw (c .take-classifier .ensures) (sym (scan-more _ _ _ _ _ _ _ _ (turn .loop-test .taken) (omega arith)) ∙ inv .3))
+
+-- behind the loop: where the packet was read, that it is an IPv4 one, and that the walk is done
+abbrev Read : tie.After-loop Inv-loop μ-loop → tie.After-read-packet Inv-loop μ-loop
+Read c = c .before .before .before .before
+
+ipv4 : (c : tie.After-loop Inv-loop μ-loop) → Read c .read-packet .result .ipv4 ≡ true
+ipv4 c = not-false (Read c .read-packet .result .ipv4) (c .before .before .if1 .left)
+
+returns-2 : tie.Need-returns-2 Inv-loop μ-loop
+returns-2 c =
+    let read = Read (c .before) in
+    let inv = c .before .before .loop .inv in
+    let done = sym (scan-end _ _ _ _ _ _ _ (c .before .loop-test .left)) ∙ inv .3 in
+    matchPlace-none _ _ _ (inv .2) _ (read .read-packet .ensures) (ipv4 (c .before)) _ done _ (read .before .limited .ensures) (c .if2 .taken)
+
+returns-3 : tie.Need-returns-3 Inv-loop μ-loop
+returns-3 c =
+    let inv = c .before .before .loop .inv in
+    let done = sym (scan-end _ _ _ _ _ _ _ (c .before .loop-test .left)) ∙ inv .3 in
+    matchPlace-some _ _ _ (inv .2) _ (Read (c .before) .read-packet .ensures) (ipv4 (c .before)) _ done (c .if2 .left)
 
 pub match-place-spec : {M : Type 1} → statement M
 match-place-spec =
@@ -80,16 +74,13 @@ match-place-spec =
     μ-loop
     (λ c κs. search needs)
     (λ c κs. search needs)
-    (λ c. foreign _ _ _ (search (needs, length-mapped)) _ (c .before .before .read-packet .ensures) _ (c .before .before .before .limited .ensures) (not-true (c .before .before .read-packet .result .ipv4) (c .if1 .taken)))
+    returns
     loop-holds
     (λ c. search needs)
     (λ c. search needs)
     (λ c κs. search needs)
     (λ c. search needs)
     (λ c. search needs)
-    (λ c. let inv = c .before .before .before .loop .inv in
-    (search needs, inv .1, inv .2, rw (c .take-classifier .ensures) (sym (scan-more _ _ _ _ _ _ _ _ (c .before .before .loop-test .taken) (omega arith)) ∙ inv .3)))
-    (λ c. let inv = c .before .before .loop .inv in
-    none _ _ _ (inv .2) _ (c .before .before .before .before .before .read-packet .ensures) (not-false (c .before .before .before .before .before .read-packet .result .ipv4) (c .before .before .before .if1 .left)) _ (sym (scan-end _ _ _ _ _ _ _ (c .before .loop-test .left)) ∙ inv .3) _ (c .before .before .before .before .before .before .limited .ensures) (c .if2 .taken))
-    (λ c. let inv = c .before .before .loop .inv in
-    some _ _ _ (inv .2) _ (c .before .before .before .before .before .read-packet .ensures) (not-false (c .before .before .before .before .before .read-packet .result .ipv4) (c .before .before .before .if1 .left)) _ (sym (scan-end _ _ _ _ _ _ _ (c .before .loop-test .left)) ∙ inv .3) (c .if2 .left)))
+    loop-again
+    returns-2
+    returns-3)

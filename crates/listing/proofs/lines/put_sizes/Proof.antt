@@ -1,18 +1,16 @@
 -- `listing::lines::put_sizes` writes `sizesLine`: its halves one behind the other.
 -- Trusts: nothing.
 use Prim.Native.Nat.{ℕ}
-use mathlib.Core.Path.{_≡_, sym, ap, _∙_}
-use mathlib.Core.List.{List, _++_}
+use mathlib.Core.Path.{_≡_, sym, _∙_}
+use mathlib.Core.List.{List}
 use lib.ListN.{length}
 use borrow.Author.Needs.{needs}
 use Rattle.table.specs.Table.{rulesOf, classifiersOf, channelsOf}
 use Rattle.table.proofs.Laws.{length-rulesOf, length-classifiersOf, length-channelsOf, length-mapped}
-use Rattle.texts.specs.Text.{ascii}
 use Rattle.listing.specs.Text.{sizesLine}
 use Rattle.texts.specs.Writing.{Fits, Short}
-use Rattle.listing.specs.Writing.{fields}
 use Rattle.listing.proofs.Lengths.{sizesLine-short}
-use Rattle.listing.proofs.Halves.{sizesLine-halves}
+use Rattle.listing.proofs.Halves.{sizesParts, sizesLine-parts}
 use Rattle.texts.proofs.Written.{fits-most, fits-same, fits-first, fits-rest, wrote-same, wrote-then}
 use Rattle.listing.proofs.lines.put_sizes.Statement.{statement}
 use Rattle.listing.proofs.lines.put_sizes.Tie as tie
@@ -27,36 +25,61 @@ classifiers c = c .limited2 .ensures ∙ sym (length-classifiersOf _ (search (ne
 channels : (c : tie.After-limited3) → c .limited3 .result ≡ length (channelsOf (c .before .before .before .before .args .table))
 channels c = c .limited3 .ensures ∙ sym (length-channelsOf _ (search needs))
 
--- the line with the printed numbers
-printed : ℕ → ℕ → ℕ → ℕ → List ℕ
-printed count r cl ch = fields (ascii "dcd ") count (ascii " rules ") r ++ (fields (ascii " classifiers ") cl (ascii " channels ") ch ++ ascii "\n")
+-- where the sizes are known: the walk's start, and the line with the printed numbers
+abbrev Start : tie.After-limited3 → tie.Start
+Start c = c .before .before .before .before
 
-printed-same : (count : ℕ) {r r′ cl cl′ ch ch′ : ℕ} → r ≡ r′ → cl ≡ cl′ → ch ≡ ch′ → printed count r cl ch ≡ printed count r′ cl′ ch′
-printed-same count {r} {r′} {cl} {cl′} {ch} {ch′} p q s =
-    ap (λ (k : ℕ). printed count k cl ch) p ∙ ap (λ (k : ℕ). printed count r′ k ch) q ∙ ap (printed count r′ cl′) s
+abbrev Printed : tie.After-limited3 → List ℕ
+Printed c = sizesParts (Start c .args .count) (c .before .before .limited .result) (c .before .limited2 .result) (c .limited3 .result)
 
-same : (c : tie.After-limited3) → printed (c .before .before .before .before .args .count) (c .before .before .limited .result) (c .before .limited2 .result) (c .limited3 .result) ≡ sizesLine (c .before .before .before .before .args .count) (c .before .before .before .before .args .table)
-unfolding printed
-same c = printed-same _ (rules (c .before .before)) (classifiers (c .before)) (channels c) ∙ sym (sizesLine-halves _ _)
+same : (c : tie.After-limited3) → Printed c ≡ sizesLine (Start c .args .count) (Start c .args .table)
+same c = sizesLine-parts _ _ (rules (c .before .before)) (classifiers (c .before)) (channels c)
 
 -- it is short enough, and so has room
-short : (c : tie.After-limited3) → Short 44 (sizesLine (c .before .before .before .before .args .count) (c .before .before .before .before .args .table))
-short c = sizesLine-short _ _ (c .before .before .before .before .fits .count .fits)
+short : (c : tie.After-limited3) → Short 44 (sizesLine (Start c .args .count) (Start c .args .table))
+short c = sizesLine-short _ _ (Start c .fits .count .fits)
 
-fits : (c : tie.After-limited3) → Fits (c .before .before .before .before .args .out .now) (c .before .before .before .before .args .at) (printed (c .before .before .before .before .args .count) (c .before .before .limited .result) (c .before .limited2 .result) (c .limited3 .result))
-fits c = fits-same (sym (same c)) (fits-most 44 (c .before .before .before .before .pre) (short c))
+fits : (c : tie.After-limited3) → Fits (Start c .args .out .now) (Start c .args .at) (Printed c)
+fits c = fits-same (sym (same c)) (fits-most 44 (Start c .pre) (short c))
+
+-- the points ahead of the first half and behind it
+abbrev Counted : tie.After-put-two-arg3 → tie.After-limited3
+Counted c = c .before .before .before
+
+abbrev First : tie.After-put-last-two-arg3 → tie.After-put-two
+First c = c .before .before .before .before .before
 
 put-two-requires : tie.Need-put-two-requires
-unfolding printed
-put-two-requires c κs = fits-first _ (fits (c .before .before .before))
+unfolding sizesParts
+put-two-requires c κs = fits-first _ (fits (Counted c))
 
 put-last-two-requires : tie.Need-put-last-two-requires
-unfolding printed
-put-last-two-requires c κs = fits-rest (fits (c .before .before .before .before .before .before .before .before .before)) (c .before .before .before .before .before .put-two .ensures)
+unfolding sizesParts
+put-last-two-requires c κs = fits-rest (fits (Counted (First c .before))) (First c .put-two .ensures)
+
+abbrev Sizes : tie.After-slice-known3 → tie.After-limited3
+Sizes c = Counted (First (c .before .before .before) .before)
 
 returns : tie.Need-returns
-unfolding printed
-returns c = record { wrote = wrote-same (same (c .before .before .before .before .before .before .before .before .before .before .before .before)) (wrote-then (fits (c .before .before .before .before .before .before .before .before .before .before .before .before)) (c .before .before .before .before .before .before .before .before .put-two .ensures) (c .before .before .put-last-two .ensures)); short = short (c .before .before .before .before .before .before .before .before .before .before .before .before) }
+unfolding sizesParts
+returns c =
+    record {
+      wrote = wrote-same (same (Sizes c)) (wrote-then (fits (Sizes c)) (First (c .before .before .before) .put-two .ensures) (c .before .before .put-last-two .ensures));
+      short = short (Sizes c);
+    }
 
 pub put-sizes-spec : {M : Type 1} → statement M
-put-sizes-spec = tie.close (tie.spec (λ c κs. search needs) (λ c κs. search needs) (λ c κs. search needs) (λ c. search needs) (λ c. search needs) put-two-requires (λ c. search needs) (λ c. search needs) put-last-two-requires (λ c. search needs) returns)
+put-sizes-spec =
+    tie.close
+    (tie.spec
+    (λ c κs. search needs)
+    (λ c κs. search needs)
+    (λ c κs. search needs)
+    (λ c. search needs)
+    (λ c. search needs)
+    put-two-requires
+    (λ c. search needs)
+    (λ c. search needs)
+    put-last-two-requires
+    (λ c. search needs)
+    returns)

@@ -8,7 +8,11 @@ use Rattle.listing.proofs.lines.put_two.Tie as tie
 
 returns : tie.Need-returns
 unfolding fields
-returns c = put-last _ (c .before .before .before .before .before .before .before .before .before .before .before .pre) (put-first _ (c .before .before .before .before .before .before .before .before .before .before .before .pre) (c .before .before .before .before .before .before .put-field .ensures)) (c .before .before .put-field2 .ensures)
+returns c =
+    let second = c .before .before in
+    let first = second .before .before .before .before in
+    let room = first .before .before .before .before .before .pre in
+    put-last _ room (put-first _ room (first .put-field .ensures)) (second .put-field2 .ensures)
 
 pub put-two-spec : {M : Type 1} → statement M
 put-two-spec = tie.close (tie.spec (λ c κs. search needs) (λ c κs. search needs) (λ c. search needs) returns)
