@@ -16,9 +16,9 @@ use mir.Syntax.{Ty, Local, local, Fn}
 use mir.Val.{Val, WT, hasTy}
 use base.Logic.{SProp, ent, sep, emp, via, comm∗, assoc∗, assoc′, monoL, monoR, fst∗, snd∗, emp∗, wand, wandI, all, allI, guardI}
 use base.Fml.{fat, froom, fdies}
-use prog.Wp.{Heap, Calls, Loops, alloc, pass, params, release, WpFn}
+use prog.Wp.{Heap, Calls, Loops, write, alloc, pass, params, release, WpFn}
 use ghost.Atoms.{Atoms}
-use types.Kit.{Given, Item, ‵, raw, _⊛_, ⋆, push, pop, ++⊢, ⊢++, Goal, prop, runs, frees as freeing, atRet, aim, Seq, Step, step, _$_, _∵_, !, qed, by, move, use1, use2, split, join, frame, done}
+use types.Kit.{Given, Item, ‵, raw, _⊛_, ⋆, push, pop, ++⊢, ⊢++, Goal, prop, runs, frees as freeing, atRet, aim, Seq, Step, step, _$_, _∵_, !, qed, by, move, use1, use2, split, join, frame, check, assume, done}
 
 -- where the locals lie
 abbrev Places : Type 0
@@ -79,47 +79,63 @@ module _ {M : Type 1} (𝓤 : URA M) (H : Heap 𝓤) (A : Atoms 𝓤) (W : Given
       allI 𝓤 (λ (b : ℕ). wand 𝓤 (sep 𝓤 (H .room τ b zero) (H .dies τ b)) (alloc 𝓤 H ls (λ E. F ((τ, b) ∷ E))))
       (λ b. wandI 𝓤 Q (sep 𝓤 (H .room τ b zero) (H .dies τ b)) (alloc 𝓤 H ls (λ E. F ((τ, b) ∷ E)))
       (made ls (sep 𝓤 Q (sep 𝓤 (H .room τ b zero) (H .dies τ b))) (λ E. F ((τ, b) ∷ E))
-      (wherever-map ls _ _ (λ E p. via 𝓤 _ (made-one τ b E Q) p) (k b))))
+      (wherever-map ls (λ E. ent 𝓤 (sep 𝓤 Q (sep 𝓤 (places ((τ, b) ∷ E) []) (dying 𝓤 H ((τ, b) ∷ E)))) (F ((τ, b) ∷ E)))
+      (λ E. ent 𝓤 (sep 𝓤 (sep 𝓤 Q (sep 𝓤 (H .room τ b zero) (H .dies τ b))) (sep 𝓤 (places E []) (dying 𝓤 H E))) (F ((τ, b) ∷ E)))
+      (λ E p. via 𝓤 (sep 𝓤 Q (sep 𝓤 (places ((τ, b) ∷ E) []) (dying 𝓤 H ((τ, b) ∷ E)))) (made-one τ b E Q) p) (k b))))
+
+  -- one argument is stored, and then the others
+  passed-one : (e : Ty × ℕ) (v : Val) (E : Places) (Q P : SProp 𝓤) → T (hasTy (e .0) v) × WT v
+      → ent 𝓤 (sep 𝓤 (sep 𝓤 (H .at fullShare (e .0) (e .1) zero v) Q) (places E [])) P → ent 𝓤 (sep 𝓤 Q (places (e ∷ E) [])) (write 𝓤 H (e .0) (e .1) zero v P)
+  passed-one e v E Q P wt k =
+      qed W (raw Q ∷ raw (places (e ∷ E) []) ∷ []) ∵ check ! wt $ move ! (1 ∷ []) $
+      use1 W (‵ (froom (e .0) (e .1) zero) ⊛ raw (places E [])) (pop 𝓤 H A (‵ (froom (e .0) (e .1) zero)) (stored E [])) $ split ! $ frame ! $
+      assume ! (‵ (fat fullShare (e .0) (e .1) zero v)) $ move ! (0 ∷ 2 ∷ []) $ join ! $ by ! k
+
+  stored-one : (e : Ty × ℕ) (v : Val) (E : Places) (vs : List Val) (Q : SProp 𝓤)
+      → ent 𝓤 (sep 𝓤 (sep 𝓤 (H .at fullShare (e .0) (e .1) zero v) Q) (places E vs)) (sep 𝓤 Q (places (e ∷ E) (v ∷ vs)))
+  stored-one e v E vs Q =
+      qed W ((‵ (fat fullShare (e .0) (e .1) zero v) ⊛ raw Q) ∷ raw (places E vs) ∷ []) ∵ split ! $ move ! (1 ∷ []) $ frame ! $
+      use2 W (raw (places (e ∷ E) (v ∷ vs))) (push 𝓤 H A (‵ (fat fullShare (e .0) (e .1) zero v)) (stored E vs)) $ done !
 
   passed : (E : Places) (vs : List Val) (Q G : SProp 𝓤) → Typed E vs → ent 𝓤 (sep 𝓤 Q (places E vs)) G → ent 𝓤 (sep 𝓤 Q (places E [])) (pass 𝓤 H E vs G)
   passed [] [] Q G z k = k
   passed (e ∷ E) [] Q G z k = k
   passed [] (v ∷ vs) Q G z k = absurd z
   passed (e ∷ E) (v ∷ vs) Q G z k =
-      via 𝓤 (sep 𝓤 room (sep 𝓤 Q (places E [])))
-      (qed W (raw Q ∷ raw (places (e ∷ E) []) ∷ []) ∵ move ! (1 ∷ []) $ use1 W (‵ (froom (e .0) (e .1) zero) ⊛ raw (places E [])) (pop 𝓤 H A (‵ (froom (e .0) (e .1) zero)) (stored E [])) $
-      split ! $ frame ! $ move ! (1 ∷ 0 ∷ []) $ done !)
-      (via 𝓤 (sep 𝓤 room (wand 𝓤 cell (pass 𝓤 H E vs G)))
-      (monoR 𝓤 room (wandI 𝓤 (sep 𝓤 Q (places E [])) cell (pass 𝓤 H E vs G)
-      (via 𝓤 (sep 𝓤 (sep 𝓤 cell Q) (places E []))
-      (qed W ((raw Q ⊛ raw (places E [])) ∷ raw cell ∷ []) ∵ split ! $ move ! (2 ∷ 0 ∷ []) $ join ! $ done !)
-      (passed E vs (sep 𝓤 cell Q) G (z .1)
-      (via 𝓤 (sep 𝓤 Q (places (e ∷ E) (v ∷ vs)))
-      (qed W ((‵ (fat fullShare (e .0) (e .1) zero v) ⊛ raw Q) ∷ raw (places E vs) ∷ []) ∵ split ! $ move ! (1 ∷ []) $ frame ! $
-      use2 W (raw (places (e ∷ E) (v ∷ vs))) (push 𝓤 H A (‵ (fat fullShare (e .0) (e .1) zero v)) (stored E vs)) $ done !) k)))))
-      (guardI 𝓤 (T (hasTy (e .0) v) × WT v) (sep 𝓤 room (wand 𝓤 cell (pass 𝓤 H E vs G))) (z .0)))
-    where
-      room : SProp 𝓤
-      room = H .room (e .0) (e .1) zero
+      passed-one e v E Q (pass 𝓤 H E vs G) (z .0)
+      (passed E vs (sep 𝓤 (H .at fullShare (e .0) (e .1) zero v) Q) G (z .1) (via 𝓤 (sep 𝓤 Q (places (e ∷ E) (v ∷ vs))) (stored-one e v E vs Q) k))
 
-      cell : SProp 𝓤
-      cell = H .at fullShare (e .0) (e .1) zero v
+  -- the result's place and the right to end all are set aside, and put back around the arguments
+  apart : (Γ : List (Item 𝓤)) (e : Ty × ℕ) (E : Places)
+      → ent 𝓤 (sep 𝓤 (⋆ 𝓤 H A Γ) (sep 𝓤 (places (e ∷ E) []) (dying 𝓤 H (e ∷ E))))
+      (sep 𝓤 (sep 𝓤 (⋆ 𝓤 H A Γ) (sep 𝓤 (H .room (e .0) (e .1) zero) (dying 𝓤 H (e ∷ E)))) (places E []))
+  apart Γ e E =
+      qed W (raw (⋆ 𝓤 H A Γ) ∷ (raw (places (e ∷ E) []) ⊛ raw (dying 𝓤 H (e ∷ E))) ∷ []) ∵ move ! (1 ∷ []) $ split ! $
+      use1 W (‵ (froom (e .0) (e .1) zero) ⊛ raw (places E [])) (pop 𝓤 H A (‵ (froom (e .0) (e .1) zero)) (stored E [])) $ split ! $
+      move ! (0 ∷ 2 ∷ []) $ join ! $ move ! (2 ∷ 0 ∷ []) $ join ! $ frame ! $ done !
+
+  around : (e : Ty × ℕ) (E : Places) (vs : List Val) (D : SProp 𝓤)
+      → ent 𝓤 (sep 𝓤 (sep 𝓤 (H .room (e .0) (e .1) zero) D) (places E vs)) (⋆ 𝓤 H A (‵ (froom (e .0) (e .1) zero) ∷ (stored E vs ++ (raw D ∷ []))))
+  around e E vs D =
+      qed W ((‵ (froom (e .0) (e .1) zero) ⊛ raw D) ∷ raw (places E vs) ∷ []) ∵ split ! $ move ! (2 ∷ 1 ∷ []) $
+      use2 W (raw (⋆ 𝓤 H A (stored E vs ++ (raw D ∷ [])))) (++⊢ 𝓤 H A (stored E vs) (raw D ∷ [])) $ move ! (1 ∷ 0 ∷ []) $
+      use2 W (raw (⋆ 𝓤 H A (‵ (froom (e .0) (e .1) zero) ∷ (stored E vs ++ (raw D ∷ []))))) (push 𝓤 H A (‵ (froom (e .0) (e .1) zero)) (stored E vs ++ (raw D ∷ []))) $ done !
+
+  together : (Γ : List (Item 𝓤)) (e : Ty × ℕ) (E : Places) (vs : List Val)
+      → ent 𝓤 (sep 𝓤 (sep 𝓤 (⋆ 𝓤 H A Γ) (sep 𝓤 (H .room (e .0) (e .1) zero) (dying 𝓤 H (e ∷ E)))) (places E vs)) (⋆ 𝓤 H A (Γ ++ started 𝓤 H (e ∷ E) vs))
+  together Γ e E vs =
+      via 𝓤 (sep 𝓤 (⋆ 𝓤 H A Γ) (sep 𝓤 (sep 𝓤 (H .room (e .0) (e .1) zero) (dying 𝓤 H (e ∷ E))) (places E vs)))
+      (assoc∗ 𝓤 (⋆ 𝓤 H A Γ) (sep 𝓤 (H .room (e .0) (e .1) zero) (dying 𝓤 H (e ∷ E))) (places E vs))
+      (via 𝓤 (sep 𝓤 (⋆ 𝓤 H A Γ) (⋆ 𝓤 H A (started 𝓤 H (e ∷ E) vs)))
+      (monoR 𝓤 (⋆ 𝓤 H A Γ) (around e E vs (dying 𝓤 H (e ∷ E)))) (++⊢ 𝓤 H A Γ (started 𝓤 H (e ∷ E) vs)))
 
   given : (Γ : List (Item 𝓤)) (E : Places) (vs : List Val) (G : SProp 𝓤) → Fits E vs → ent 𝓤 (⋆ 𝓤 H A (Γ ++ started 𝓤 H E vs)) G
       → ent 𝓤 (sep 𝓤 (⋆ 𝓤 H A Γ) (sep 𝓤 (places E []) (dying 𝓤 H E))) (params 𝓤 H E vs G)
   given Γ [] vs G z k = absurd z
   given Γ (e ∷ E) vs G z k =
-      via 𝓤 (sep 𝓤 (sep 𝓤 (⋆ 𝓤 H A Γ) (sep 𝓤 (H .room (e .0) (e .1) zero) (dying 𝓤 H (e ∷ E)))) (places E []))
-      (qed W (raw (⋆ 𝓤 H A Γ) ∷ (raw (places (e ∷ E) []) ⊛ raw (dying 𝓤 H (e ∷ E))) ∷ []) ∵ move ! (1 ∷ []) $ split ! $
-      use1 W (‵ (froom (e .0) (e .1) zero) ⊛ raw (places E [])) (pop 𝓤 H A (‵ (froom (e .0) (e .1) zero)) (stored E [])) $ split ! $
-      move ! (0 ∷ 2 ∷ []) $ join ! $ move ! (2 ∷ 0 ∷ []) $ join ! $ frame ! $ done !)
+      via 𝓤 (sep 𝓤 (sep 𝓤 (⋆ 𝓤 H A Γ) (sep 𝓤 (H .room (e .0) (e .1) zero) (dying 𝓤 H (e ∷ E)))) (places E [])) (apart Γ e E)
       (passed E vs (sep 𝓤 (⋆ 𝓤 H A Γ) (sep 𝓤 (H .room (e .0) (e .1) zero) (dying 𝓤 H (e ∷ E)))) G z
-      (via 𝓤 (sep 𝓤 (⋆ 𝓤 H A Γ) (⋆ 𝓤 H A (started 𝓤 H (e ∷ E) vs)))
-      (qed W ((raw (⋆ 𝓤 H A Γ) ⊛ (‵ (froom (e .0) (e .1) zero) ⊛ raw (dying 𝓤 H (e ∷ E)))) ∷ raw (places E vs) ∷ []) ∵ split ! $ frame ! $ split ! $
-      move ! (0 ∷ 2 ∷ 1 ∷ []) $ move ! (1 ∷ 2 ∷ []) $
-      use2 W (raw (⋆ 𝓤 H A (stored E vs ++ (raw (dying 𝓤 H (e ∷ E)) ∷ [])))) (++⊢ 𝓤 H A (stored E vs) (raw (dying 𝓤 H (e ∷ E)) ∷ [])) $ move ! (1 ∷ 0 ∷ []) $
-      use2 W (raw (⋆ 𝓤 H A (started 𝓤 H (e ∷ E) vs))) (push 𝓤 H A (‵ (froom (e .0) (e .1) zero)) (stored E vs ++ (raw (dying 𝓤 H (e ∷ E)) ∷ []))) $ done !)
-      (via 𝓤 _ (++⊢ 𝓤 H A Γ (started 𝓤 H (e ∷ E) vs)) k)))
+      (via 𝓤 (⋆ 𝓤 H A (Γ ++ started 𝓤 H (e ∷ E) vs)) (together Γ e E vs) k))
 
   ended-one : (e : Ty × ℕ) (E : Places) (vs : List Val) (P : SProp 𝓤) → ent 𝓤 (sep 𝓤 (places E vs) (sep 𝓤 (dying 𝓤 H E) P)) (release 𝓤 H E P)
       → ent 𝓤 (sep 𝓤 (sep 𝓤 (H .room (e .0) (e .1) zero) (places E vs)) (sep 𝓤 (dying 𝓤 H (e ∷ E)) P)) (release 𝓤 H (e ∷ E) P)
@@ -130,11 +146,13 @@ module _ {M : Type 1} (𝓤 : URA M) (H : Heap 𝓤) (A : Atoms 𝓤) (W : Given
   ended : (E : Places) (vs : List Val) (P : SProp 𝓤) → ent 𝓤 (sep 𝓤 (places E vs) (sep 𝓤 (dying 𝓤 H E) P)) (release 𝓤 H E P)
   ended [] vs P = via 𝓤 (sep 𝓤 (emp 𝓤) P) (snd∗ 𝓤 (emp 𝓤) (sep 𝓤 (emp 𝓤) P)) (snd∗ 𝓤 (emp 𝓤) P)
   ended (e ∷ E) [] P =
-      via 𝓤 _ (monoL 𝓤 (sep 𝓤 (dying 𝓤 H (e ∷ E)) P) (pop 𝓤 H A (‵ (froom (e .0) (e .1) zero)) (stored E [])))
+      via 𝓤 (sep 𝓤 (sep 𝓤 (H .room (e .0) (e .1) zero) (places E [])) (sep 𝓤 (dying 𝓤 H (e ∷ E)) P))
+      (monoL 𝓤 (sep 𝓤 (dying 𝓤 H (e ∷ E)) P) (pop 𝓤 H A (‵ (froom (e .0) (e .1) zero)) (stored E [])))
       (ended-one e E [] P (ended E [] P))
   ended (e ∷ E) (v ∷ vs) P =
-      via 𝓤 _ (monoL 𝓤 (sep 𝓤 (dying 𝓤 H (e ∷ E)) P)
-      (via 𝓤 _ (pop 𝓤 H A (‵ (fat fullShare (e .0) (e .1) zero v)) (stored E vs)) (monoL 𝓤 (places E vs) (W .laws .at-room (e .0) (e .1) zero v))))
+      via 𝓤 (sep 𝓤 (sep 𝓤 (H .room (e .0) (e .1) zero) (places E vs)) (sep 𝓤 (dying 𝓤 H (e ∷ E)) P))
+      (monoL 𝓤 (sep 𝓤 (dying 𝓤 H (e ∷ E)) P)
+      (via 𝓤 (sep 𝓤 (H .at fullShare (e .0) (e .1) zero v) (places E vs)) (pop 𝓤 H A (‵ (fat fullShare (e .0) (e .1) zero v)) (stored E vs)) (monoL 𝓤 (places E vs) (W .laws .at-room (e .0) (e .1) zero v))))
       (ended-one e E vs P (ended E vs P))
 
 module _ {M : Type 1} {𝓤 : URA M} where
@@ -167,8 +185,8 @@ module _ {M : Type 1} {𝓤 : URA M} {H : Heap 𝓤} {A : Atoms 𝓤} {K : Type 
     prf = via 𝓤 (sep 𝓤 (⋆ 𝓤 H A (firsts n Γ)) (⋆ 𝓤 H A (rests n Γ)))
         (subst (λ (Δ : List (Item 𝓤)). ent 𝓤 (⋆ 𝓤 H A Δ) (sep 𝓤 (⋆ 𝓤 H A (firsts n Γ)) (⋆ 𝓤 H A (rests n Γ)))) (parted n Γ) (⊢++ 𝓤 H A (firsts n Γ) (rests n Γ)))
         (subst (λ (Δ : List (Item 𝓤)). ent 𝓤 (sep 𝓤 (⋆ 𝓤 H A (firsts n Γ)) (⋆ 𝓤 H A Δ)) (release 𝓤 H E (aim 𝓤 H g))) same
-        (via 𝓤 _ (monoL 𝓤 (⋆ 𝓤 H A (stored E vs ++ (raw (dying 𝓤 H E) ∷ []))) (s .prf))
-        (via 𝓤 _ (monoR 𝓤 (aim 𝓤 H g) (⊢++ 𝓤 H A (stored E vs) (raw (dying 𝓤 H E) ∷ [])))
+        (via 𝓤 (sep 𝓤 (aim 𝓤 H g) (⋆ 𝓤 H A (stored E vs ++ (raw (dying 𝓤 H E) ∷ [])))) (monoL 𝓤 (⋆ 𝓤 H A (stored E vs ++ (raw (dying 𝓤 H E) ∷ []))) (s .prf))
+        (via 𝓤 (sep 𝓤 (aim 𝓤 H g) (sep 𝓤 (places 𝓤 H A W E vs) (dying 𝓤 H E))) (monoR 𝓤 (aim 𝓤 H g) (⊢++ 𝓤 H A (stored E vs) (raw (dying 𝓤 H E) ∷ [])))
         (qed W (raw (aim 𝓤 H g) ∷ (raw (⋆ 𝓤 H A (stored E vs)) ⊛ raw (dying 𝓤 H E)) ∷ []) ∵ move ! (1 ∷ []) $ split ! $
         by ! (ended 𝓤 H A W E vs (aim 𝓤 H g))))));
   })
