@@ -4,12 +4,14 @@
 use Rattle.dsg.proofs.Walk.{_≡_, refl, ap, ℕ, [], _∷_, List, URA, fullShare, named, w8, w16, w32, Val, vint, vptr, SProp, ent, emp, via, fst∗, id⊢, GName}
 use Rattle.dsg.proofs.Walk.{Lft, Share, ftrue, flft, fobs, fbor, fat, Memory, Routine, Heap, Calls, Loops, WpFn, Tables, Atoms, Fun, fact, givenOf}
 use Rattle.dsg.proofs.Walk.{tables, tablesOf, Given, Item, ‵, raw, _⊛_, ⋆, some, later, _$_, _∵_, !, qed, by, move, keep, drop, use0, use1, split, join}
-use Rattle.dsg.proofs.Walk.{pick, rewrite, fsplit, fsplit3, fjoin, fjoin3, feqI, suffices, frame, await, done, look, look-raw, store-raw, init, forget}
-use Rattle.dsg.proofs.Walk.{stop, hop, fld, from, load, of-opd, and-then, no-more, assigns, land, returns, enter, alloc1, alloc0, params1, pass1, pass0}
-use Rattle.dsg.proofs.Walk.{free1, free0, whole, sub, look-in, Body, FmC, fmOf, WpFn-mono, owns, Is, shows, mem, uint-vals, uint-tells, uint-makes}
+use Rattle.dsg.proofs.Walk.{pick, rewrite, fsplit, fsplit3, fjoin, fjoin3, feqI, suffices, frame, await, done, look, store-raw, init}
+use Rattle.dsg.proofs.Walk.{stop, hop, from, and-then, no-more, assigns, land, returns}
+use Rattle.dsg.proofs.Walk.{whole, Body, FmC, fmOf, WpFn-mono, owns, Is, shows, mem, uint-vals, uint-tells, uint-makes}
 use Rattle.dsg.proofs.Walk.{uint-lawful, u8, u16, u32, RefT, MutRef, ptr-vals, mut-tells, plain, only, opens, closes, owned, peeks, heard, nothing, spelt}
 use Rattle.dsg.proofs.Walk.{onEntry, Meets, tripleOf, Contract, Triple, calls-at, ensured, lasts, entered, cited, says, Stays, stay-ref, stay-none}
 use Rattle.dsg.proofs.Walk.{walkOf, AllGo, goes-none, goes-ref, Walks, ends-at, walked, walk-meets, yes}
+use Rattle.dsg.proofs.Locals.{begins, frees}
+use Rattle.dsg.proofs.Reading.{reads, reads-behind, reads-field, sets}
 use denote.Struct.Laws as LL
 use Rattle.dsg_events.specs.Events.{eventStepped}
 use Rattle.modem_record.specs.declared.Modem.{Modem}
@@ -79,39 +81,28 @@ module _ {M : Type 1} (𝓤 : URA M) (H : Heap 𝓤) (A : Atoms 𝓤) (W : Given
     walk : ent 𝓤 (onEntry 𝓤 H A dsg-event.signature (κ0, tt) (q0, tt) x at) (WpFn 𝓤 H C Λ code.function (vptr b o ∷ vint w32 p1 ∷ vint w8 p2 ∷ vint w16 p3 ∷ vint w16 p4 ∷ vint w16 p5 ∷ vint w16 p6 ∷ []) Post)
     walk =
         qed W ((‵ (flft κ0 q0) ⊛ ‵ ftrue) ∷ ‵ (owns (MutRef (named 0) κ0 D0.the-row ∷ u32 ∷ u8 ∷ u16 ∷ u16 ∷ u16 ∷ u16 ∷ []) x at) ∷ []) ∵
-        enter ! C Λ code.function (vptr b o ∷ vint w32 p1 ∷ vint w8 p2 ∷ vint w16 p3 ∷ vint w16 p4 ∷ vint w16 p5 ∷ vint w16 p6 ∷ []) _ $
-        alloc1 ! (λ l0. alloc1 ! (λ l1. alloc1 ! (λ l2. alloc1 ! (λ l3. alloc1 ! (λ l4. alloc1 ! (λ l5. alloc1 ! (λ l6. alloc1 ! (λ l7. alloc1 ! (λ l8. alloc1 ! (λ l9. alloc0 ! $ params1 ! $
-        pass1 ! (init ! 16 refl (tt, tt)) $ pass1 ! (init ! 14 refl (uint-lawful 𝓤 H A W w32 .typed p1 _ is-p1 .0)) $
-        pass1 ! (init ! 12 refl (uint-lawful 𝓤 H A W w8 .typed p2 _ is-p2 .0)) $
-        pass1 ! (init ! 10 refl (uint-lawful 𝓤 H A W w16 .typed p3 _ is-p3 .0)) $
-        pass1 ! (init ! 8 refl (uint-lawful 𝓤 H A W w16 .typed p4 _ is-p4 .0)) $
-        pass1 ! (init ! 6 refl (uint-lawful 𝓤 H A W w16 .typed p5 _ is-p5 .0)) $
-        pass1 ! (init ! 4 refl (uint-lawful 𝓤 H A W w16 .typed p6 _ is-p6 .0)) $ pass0 ! $
-        move ! (21 ∷ []) $ fsplit ! $ fsplit3 ! $ drop ! $ move ! (23 ∷ []) $ split ! $
-        move ! (2 ∷ 3 ∷ 0 ∷ []) $
-        opens ! tt D0.the-row {h = h} b o (λ vs0. spelt ! D0.the-row (Is D0.the-row) (shows 𝓤 H A D0.the-row) (LL.vals D0.the-type D0′.the-laws) (LL.tells D0.the-type D0′.the-laws) fullShare h vs0 b o $
-        move ! (1 ∷ []) $
-        peeks ! D0.the-row (Is D0.the-row) (shows 𝓤 H A D0.the-row) h (LL.val D0.the-type D0′.the-laws h ∷ []) (λ was. assigns ! (of-opd ! (load ! (from ! (hop ! (look ! 23 refl) (stop !))) (look-raw ! 1 refl))) (from ! (stop !)) (init ! 7 refl (LL.lawful D0.the-type D0′.the-laws 𝓤 H A W .typed h _ was .0)) $
-        use0 W (raw (Callee 𝓤 H A at-mem run .pre to)) (goes-in was) $
-        calls-at ! fm (Callee 𝓤 H A at-mem run) known to (and-then ! (load ! (from ! (stop !)) (look ! 8 refl)) (and-then ! (load ! (from ! (stop !)) (look ! 22 refl)) (and-then ! (load ! (from ! (stop !)) (look ! 20 refl)) (and-then ! (load ! (from ! (stop !)) (look ! 18 refl)) (and-then ! (load ! (from ! (stop !)) (look ! 16 refl)) (and-then ! (load ! (from ! (stop !)) (look ! 14 refl)) (and-then ! (load ! (from ! (stop !)) (look ! 12 refl)) (no-more !)))))))) (λ v.
-        use1 W (later (some (λ (r : EventStepped). (‵ ftrue ⊛ ‵ (D1.the-row .own r (v ∷ []))) ⊛ raw (ensured 𝓤 H A event-value.ended (event-value.clauses 𝓤 H A at-mem run) tt (h, (p1, (p2, (p3, (p4, (p5, (p6, tt))))))) tt r)))) (id⊢ 𝓤 _) $
-        await ! tt $ pick ! (λ r. split ! $ move ! (1 ∷ []) $
-        use1 W (some (λ (zs : (Unit {0} × (Unit {0} × (Unit {0} × (Unit {0} × (Unit {0} × (Unit {0} × (Unit {0} × Unit {0})))))))). ‵ (lasts event-value.ended tt (h, (p1, (p2, (p3, (p4, (p5, (p6, tt))))))) zs) ⊛ raw (fact 𝓤 (r ≡ eventStepped h p1 p2 p3 p4 p5 p6)))) (id⊢ 𝓤 _) $
-        pick ! (λ zs. split ! $ move ! (1 ∷ []) $ heard ! (r ≡ eventStepped h p1 p2 p3 p4 p5 p6) (λ eq.
-        drop ! $ split ! $ move ! (7 ∷ []) $ drop ! $ move ! (1 ∷ []) $ peeks ! D1.the-row (Is D1.the-row) (shows 𝓤 H A D1.the-row) r (v ∷ []) (λ is.
-        land ! (from ! (stop !)) (init ! 10 refl (LL.lawful D1.the-type D1′.the-laws 𝓤 H A W .typed r _ is .0)) $
-        rewrite ! 10 (λ (u : Val). ‵ (fat fullShare D1′.mir l8 0 u)) (ap only (LL.tells D1.the-type D1′.the-laws r _ is)) refl $
-        assigns ! (of-opd ! (load ! (from ! (fld ! refl (stop !))) (look-in ! 10 (sub ! 1 refl (whole !))))) (from ! (hop ! (look ! 24 refl) (stop !))) (store-raw ! 3 refl (LL.lawful D0.the-type D0′.the-laws 𝓤 H A W .typed (r .modem) _ (LL.owed D1.the-type D1′.the-laws r _ is .1 .0) .0)) $
-        assigns ! (of-opd ! (load ! (from ! (fld ! refl (stop !))) (look-in ! 10 (sub ! 0 refl (whole !))))) (from ! (stop !)) (init ! 26 refl (uint-lawful 𝓤 H A W w32 .typed (r .number) _ (LL.owed D1.the-type D1′.the-laws r _ is .0) .0)) $
-        drop ! $ move ! (1 ∷ []) $ drop ! $
-        owned ! D0.the-row (Is D0.the-row) (LL.makes D0.the-type D0′.the-plain 𝓤 H A) (r .modem) _ (LL.owed D1.the-type D1′.the-laws r _ is .1 .0) $
-        move ! (2 ∷ 0 ∷ 3 ∷ 4 ∷ 5 ∷ []) $ closes ! tt D0.the-row (r .modem) (LL.val D0.the-type D0′.the-laws (r .modem) ∷ []) b o $
-        returns ! (look ! 23 refl) $ forget ! 23 refl $ forget ! 21 refl $ forget ! 19 refl $ forget ! 17 refl $ forget ! 15 refl $ forget ! 13 refl $
-        forget ! 11 refl $ forget ! 9 refl $ forget ! 7 refl $ forget ! 5 refl $
-        move ! (23 ∷ 24 ∷ []) $ free1 ! $ move ! (21 ∷ 22 ∷ []) $ free1 ! $ move ! (19 ∷ 20 ∷ []) $ free1 ! $ move ! (17 ∷ 18 ∷ []) $ free1 ! $
-        move ! (15 ∷ 16 ∷ []) $ free1 ! $ move ! (13 ∷ 14 ∷ []) $ free1 ! $ move ! (11 ∷ 12 ∷ []) $ free1 ! $ move ! (9 ∷ 10 ∷ []) $ free1 ! $
-        move ! (7 ∷ 8 ∷ []) $ free1 ! $ move ! (5 ∷ 6 ∷ []) $ free1 ! $ free0 ! $
-        keep ! (0 ∷ 1 ∷ 2 ∷ 3 ∷ []) $ by ! (exits r eq (LL.owed D1.the-type D1′.the-laws r _ is .0)))))))))))))))))))
+        begins ! C Λ code.function (vptr b o ∷ vint w32 p1 ∷ vint w8 p2 ∷ vint w16 p3 ∷ vint w16 p4 ∷ vint w16 p5 ∷ vint w16 p6 ∷ []) _
+        (λ l0 l1 l2 l3 l4 l5 l6 l7 l8 l9. (
+          ((tt, tt), ((uint-lawful 𝓤 H A W w32 .typed p1 _ is-p1 .0), ((uint-lawful 𝓤 H A W w8 .typed p2 _ is-p2 .0), ((uint-lawful 𝓤 H A W w16 .typed p3 _ is-p3 .0), ((uint-lawful 𝓤 H A W w16 .typed p4 _ is-p4 .0), ((uint-lawful 𝓤 H A W w16 .typed p5 _ is-p5 .0), ((uint-lawful 𝓤 H A W w16 .typed p6 _ is-p6 .0), tt))))))),
+          move ! (1 ∷ []) $ fsplit ! $ fsplit3 ! $ drop ! $ move ! (3 ∷ []) $ split ! $
+              move ! (2 ∷ 3 ∷ 0 ∷ []) $ opens ! tt D0.the-row {h = h} b o (λ vs0. spelt ! D0.the-row (Is D0.the-row) (shows 𝓤 H A D0.the-row) (LL.vals D0.the-type D0′.the-laws) (LL.tells D0.the-type D0′.the-laws) fullShare h vs0 b o $
+              move ! (1 ∷ []) $ peeks ! D0.the-row (Is D0.the-row) (shows 𝓤 H A D0.the-row) h (LL.val D0.the-type D0′.the-laws h ∷ []) (λ was. sets ! (reads-behind ! 8 refl 1 refl) 16 refl (LL.lawful D0.the-type D0′.the-laws 𝓤 H A W .typed h _ was .0) $
+              use0 W (raw (Callee 𝓤 H A at-mem run .pre to)) (goes-in was) $
+              calls-at ! fm (Callee 𝓤 H A at-mem run) known to (and-then ! (reads ! 17 refl) (and-then ! (reads ! 10 refl) (and-then ! (reads ! 11 refl) (and-then ! (reads ! 12 refl) (and-then ! (reads ! 13 refl) (and-then ! (reads ! 14 refl) (and-then ! (reads ! 15 refl) (no-more !)))))))) (λ v.
+              use1 W (later (some (λ (r : EventStepped). (‵ ftrue ⊛ ‵ (D1.the-row .own r (v ∷ []))) ⊛ raw (ensured 𝓤 H A event-value.ended (event-value.clauses 𝓤 H A at-mem run) tt (h, (p1, (p2, (p3, (p4, (p5, (p6, tt))))))) tt r)))) (id⊢ 𝓤 _) $
+              await ! tt $ pick ! (λ r. split ! $ move ! (1 ∷ []) $ use1 W (some (λ (zs : (Unit {0} × (Unit {0} × (Unit {0} × (Unit {0} × (Unit {0} × (Unit {0} × (Unit {0} × Unit {0})))))))). ‵ (lasts event-value.ended tt (h, (p1, (p2, (p3, (p4, (p5, (p6, tt))))))) zs) ⊛ raw (fact 𝓤 (r ≡ eventStepped h p1 p2 p3 p4 p5 p6)))) (id⊢ 𝓤 _) $
+              pick ! (λ zs. split ! $ move ! (1 ∷ []) $ heard ! (r ≡ eventStepped h p1 p2 p3 p4 p5 p6) (λ eq.
+              drop ! $ split ! $ move ! (7 ∷ []) $ drop ! $ move ! (1 ∷ []) $ peeks ! D1.the-row (Is D1.the-row) (shows 𝓤 H A D1.the-row) r (v ∷ []) (λ is.
+              land ! (from ! (stop !)) (init ! 16 refl (LL.lawful D1.the-type D1′.the-laws 𝓤 H A W .typed r _ is .0)) $
+              rewrite ! 16 (λ (u : Val). ‵ (fat fullShare D1′.mir l8 0 u)) (ap only (LL.tells D1.the-type D1′.the-laws r _ is)) refl $
+              assigns ! (reads-field ! 16 1 refl refl refl) (from ! (hop ! (look ! 9 refl) (stop !))) (store-raw ! 3 refl (LL.lawful D0.the-type D0′.the-laws 𝓤 H A W .typed (r .modem) _ (LL.owed D1.the-type D1′.the-laws r _ is .1 .0) .0)) $
+              sets ! (reads-field ! 16 0 refl refl refl) 8 refl (uint-lawful 𝓤 H A W w32 .typed (r .number) _ (LL.owed D1.the-type D1′.the-laws r _ is .0) .0) $
+              drop ! $ move ! (1 ∷ []) $ drop ! $
+              owned ! D0.the-row (Is D0.the-row) (LL.makes D0.the-type D0′.the-plain 𝓤 H A) (r .modem) _ (LL.owed D1.the-type D1′.the-laws r _ is .1 .0) $
+              move ! (2 ∷ 0 ∷ 3 ∷ 4 ∷ 5 ∷ []) $ closes ! tt D0.the-row (r .modem) (LL.val D0.the-type D0′.the-laws (r .modem) ∷ []) b o $
+              returns ! (look ! 5 refl) $ frees ! 5 (_ ∷ _ ∷ _ ∷ _ ∷ _ ∷ _ ∷ _ ∷ _ ∷ _ ∷ _ ∷ []) refl $
+              keep ! (0 ∷ 1 ∷ 2 ∷ 3 ∷ []) $ by ! (exits r eq (LL.owed D1.the-type D1′.the-laws r _ is .0))))))))),
+        ))
 
 module _ {M : Type 1} (𝓤 : URA M) (H : Heap 𝓤) (A : Atoms 𝓤) (W : Given 𝓤 H A) (at-mem : Memory → SProp 𝓤) (run : Routine → Fun 𝓤) where
   walks : (C : Calls 𝓤 H) (Λ : Loops 𝓤 H) → FmC 𝓤 H (W .laws) C → Triple 𝓤 (C #dsg_events·event-value) (Callee 𝓤 H A at-mem run)

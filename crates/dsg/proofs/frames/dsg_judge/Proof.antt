@@ -4,13 +4,15 @@
 use Rattle.dsg.proofs.Walk.{_≡_, refl, ℕ, [], _∷_, List, URA, named, w8, w64, Val, vint, vptr, SProp, ent, emp, via, fst∗, id⊢, GName, Lft, Share, ftrue}
 use Rattle.dsg.proofs.Walk.{flft, fres, fshr-bor, Memory, Routine, Heap, Calls, Loops, WpFn, Tables, Atoms, Fun, fact, givenOf, tables, tablesOf, Given}
 use Rattle.dsg.proofs.Walk.{Item, ‵, raw, _⊛_, ⋆, some, later, _$_, _∵_, !, qed, by, move, keep, drop, use1, split, join, pick, fsplit, fsplit3, fjoin}
-use Rattle.dsg.proofs.Walk.{fjoin3, feqI, suffices, frame, await, done, look, look-raw, init, forget, stop, hop, from, load, of-opd, and-then, no-more}
-use Rattle.dsg.proofs.Walk.{assigns, land, returns, enter, alloc1, alloc0, params1, pass1, pass0, free1, free0, FmC, fmOf, WpFn-mono, owns, Is, shows}
+use Rattle.dsg.proofs.Walk.{fjoin3, feqI, suffices, frame, await, done, look, init, stop, from, and-then, no-more}
+use Rattle.dsg.proofs.Walk.{land, returns, FmC, fmOf, WpFn-mono, owns, Is, shows}
 use Rattle.dsg.proofs.Walk.{mem, partAt, uint-vals, uint-tells, uint-makes, uint-lawful, u8, u64, ShrSlice, sliceVal, slice-vals, shr-slice-tells}
 use Rattle.dsg.proofs.Walk.{shr-slice-lawful, shr-slice-copy, length, RefT, ShrRef, ptr-vals, shr-tells, plain, looks, shuts, owned, peeks, heard}
 use Rattle.dsg.proofs.Walk.{nothing, spelt, onEntry, Meets, tripleOf, Contract, Triple, calls-at, ensured, lasts, entered, cited, says, Stays, stay-none}
 use Rattle.dsg.proofs.Walk.{stay-none-ref, stay-none-slice, walkOf, AllGo, goes-none, goes-none-ref, goes-none-slice, Walks, ends-at, walked, walk-meets}
 use Rattle.dsg.proofs.Walk.{yes}
+use Rattle.dsg.proofs.Locals.{begins, frees}
+use Rattle.dsg.proofs.Reading.{reads, reads-behind, sets}
 use denote.Struct.Laws as LL
 use Rattle.dsg_frames.specs.Frames.{verdictFor}
 use Rattle.table.specs.declared.Table.{Table}
@@ -80,35 +82,26 @@ module _ {M : Type 1} (𝓤 : URA M) (H : Heap 𝓤) (A : Atoms 𝓤) (W : Given
     walk : ent 𝓤 (onEntry 𝓤 H A dsg-judge.signature (κ0, (κ1, tt)) (q0, (q1, tt)) x at) (WpFn 𝓤 H C Λ code.function (vptr b o ∷ vint w8 p1 ∷ vint w64 p2 ∷ vint w8 p3 ∷ vint w8 p4 ∷ sliceVal (p5 .ptr) (length (p5 .now)) ∷ []) Post)
     walk =
         qed W ((‵ (flft κ0 q0) ⊛ ‵ (flft κ1 q1) ⊛ ‵ ftrue) ∷ ‵ (owns (ShrRef (named 0) κ0 D0.the-row ∷ u8 ∷ u64 ∷ u8 ∷ u8 ∷ (ShrSlice (named 1) κ1 u8) ∷ []) x at) ∷ []) ∵
-        enter ! C Λ code.function (vptr b o ∷ vint w8 p1 ∷ vint w64 p2 ∷ vint w8 p3 ∷ vint w8 p4 ∷ sliceVal (p5 .ptr) (length (p5 .now)) ∷ []) _ $
-        alloc1 ! (λ l0. alloc1 ! (λ l1. alloc1 ! (λ l2. alloc1 ! (λ l3. alloc1 ! (λ l4. alloc1 ! (λ l5. alloc1 ! (λ l6. alloc1 ! (λ l7. alloc0 ! $ params1 ! $
-        pass1 ! (init ! 12 refl (tt, tt)) $ pass1 ! (init ! 10 refl (uint-lawful 𝓤 H A W w8 .typed p1 _ is-p1 .0)) $
-        pass1 ! (init ! 8 refl (uint-lawful 𝓤 H A W w64 .typed p2 _ is-p2 .0)) $
-        pass1 ! (init ! 6 refl (uint-lawful 𝓤 H A W w8 .typed p3 _ is-p3 .0)) $
-        pass1 ! (init ! 4 refl (uint-lawful 𝓤 H A W w8 .typed p4 _ is-p4 .0)) $
-        pass1 ! (init ! 2 refl (shr-slice-lawful 𝓤 H A W (named 1) κ1 u8 .typed p5 _ is-p5 .0)) $ pass0 ! $
-        move ! (17 ∷ []) $ fsplit ! $ fsplit3 ! $ drop ! $ move ! (19 ∷ []) $ split ! $ move ! (4 ∷ []) $ fsplit ! $ drop ! $ fsplit ! $ drop ! $
-        fsplit ! $ drop ! $ fsplit ! $ drop ! $ fsplit ! $
-        use1 W (‵ ((ShrSlice (named 1) κ1 u8) .own p5 (sliceVal (p5 .ptr) (length (p5 .now)) ∷ [])) ⊛ ‵ ((ShrSlice (named 1) κ1 u8) .own p5 (sliceVal (p5 .ptr) (length (p5 .now)) ∷ []))) (shr-slice-copy 𝓤 H A W (named 1) κ1 u8 .twice p5 (sliceVal (p5 .ptr) (length (p5 .now)) ∷ [])) $
-        split ! $
-        move ! (6 ∷ 3 ∷ []) $
-        looks ! tt D0.the-row (Is D0.the-row) (shows 𝓤 H A D0.the-row) (LL.vals D0.the-type D0′.the-laws) (LL.tells D0.the-type D0′.the-laws) (LL.copy D0.the-type D0′.the-copy 𝓤 H A W) h b o (λ s0 vs0. spelt ! D0.the-row (Is D0.the-row) (shows 𝓤 H A D0.the-row) (LL.vals D0.the-type D0′.the-laws) (LL.tells D0.the-type D0′.the-laws) s0 h vs0 b o $
-        move ! (1 ∷ []) $
-        peeks ! D0.the-row (Is D0.the-row) (shows 𝓤 H A D0.the-row) h (LL.val D0.the-type D0′.the-laws h ∷ []) (λ was. assigns ! (of-opd ! (load ! (from ! (hop ! (look ! 21 refl) (stop !))) (look-raw ! 1 refl))) (from ! (stop !)) (init ! 9 refl (LL.lawful D0.the-type D0′.the-laws 𝓤 H A W .typed h _ was .0)) $
-        move ! (1 ∷ 0 ∷ 2 ∷ []) $ shuts ! tt D0.the-row s0 h (LL.val D0.the-type D0′.the-laws h ∷ []) b o $ move ! (5 ∷ 2 ∷ []) $ join ! $
-        use1 W (raw (Callee 𝓤 H A at-mem run .pre to)) (goes-in was) $
-        calls-at ! fm (Callee 𝓤 H A at-mem run) known to (and-then ! (load ! (from ! (stop !)) (look ! 6 refl)) (and-then ! (load ! (from ! (stop !)) (look ! 16 refl)) (and-then ! (load ! (from ! (stop !)) (look ! 14 refl)) (and-then ! (load ! (from ! (stop !)) (look ! 12 refl)) (and-then ! (load ! (from ! (stop !)) (look ! 10 refl)) (and-then ! (load ! (from ! (stop !)) (look ! 8 refl)) (no-more !))))))) (λ v.
-        use1 W (later (some (λ (r : Verdict). ((‵ (flft κ1 q1) ⊛ ‵ ftrue) ⊛ ‵ (D1.the-row .own r (v ∷ []))) ⊛ raw (ensured 𝓤 H A judge-value.ended (judge-value.clauses 𝓤 H A at-mem run) (κ1, tt) (h, (p1, (p2, (p3, (p4, (p5, tt)))))) tt r)))) (id⊢ 𝓤 _) $
-        await ! tt $ pick ! (λ r. split ! $ move ! (1 ∷ []) $
-        use1 W (some (λ (zs : (Unit {0} × (Unit {0} × (Unit {0} × (Unit {0} × (Unit {0} × (Unit {0} × Unit {0}))))))). ‵ (lasts judge-value.ended (κ1, tt) (h, (p1, (p2, (p3, (p4, (p5, tt)))))) zs) ⊛ raw (fact 𝓤 (r ≡ verdictFor h p1 p2 p3 p4 (p5 .now))))) (id⊢ 𝓤 _) $
-        pick ! (λ zs. split ! $ move ! (1 ∷ []) $ heard ! (r ≡ verdictFor h p1 p2 p3 p4 (p5 .now)) (λ eq.
-        drop ! $ split ! $ move ! (1 ∷ []) $ peeks ! D1.the-row (Is D1.the-row) (shows 𝓤 H A D1.the-row) r (v ∷ []) (λ is.
-        land ! (from ! (stop !)) (init ! 21 refl (LL.lawful D1.the-type D1′.the-laws 𝓤 H A W .typed r _ is .0)) $
-        returns ! (look ! 21 refl) $ forget ! 21 refl $ forget ! 19 refl $ forget ! 17 refl $ forget ! 15 refl $ forget ! 13 refl $ forget ! 11 refl $
-        forget ! 9 refl $ forget ! 7 refl $
-        move ! (21 ∷ 22 ∷ []) $ free1 ! $ move ! (19 ∷ 20 ∷ []) $ free1 ! $ move ! (17 ∷ 18 ∷ []) $ free1 ! $ move ! (15 ∷ 16 ∷ []) $ free1 ! $
-        move ! (13 ∷ 14 ∷ []) $ free1 ! $ move ! (11 ∷ 12 ∷ []) $ free1 ! $ move ! (9 ∷ 10 ∷ []) $ free1 ! $ move ! (7 ∷ 8 ∷ []) $ free1 ! $ free0 ! $
-        keep ! (6 ∷ 3 ∷ 0 ∷ 2 ∷ 1 ∷ 4 ∷ []) $ by ! (exits r v eq))))))))))))))))
+        begins ! C Λ code.function (vptr b o ∷ vint w8 p1 ∷ vint w64 p2 ∷ vint w8 p3 ∷ vint w8 p4 ∷ sliceVal (p5 .ptr) (length (p5 .now)) ∷ []) _
+        (λ l0 l1 l2 l3 l4 l5 l6 l7. (
+          ((tt, tt), ((uint-lawful 𝓤 H A W w8 .typed p1 _ is-p1 .0), ((uint-lawful 𝓤 H A W w64 .typed p2 _ is-p2 .0), ((uint-lawful 𝓤 H A W w8 .typed p3 _ is-p3 .0), ((uint-lawful 𝓤 H A W w8 .typed p4 _ is-p4 .0), ((shr-slice-lawful 𝓤 H A W (named 1) κ1 u8 .typed p5 _ is-p5 .0), tt)))))),
+          move ! (1 ∷ []) $ fsplit ! $ fsplit3 ! $ drop ! $ move ! (3 ∷ []) $ split ! $ move ! (4 ∷ []) $ fsplit ! $ drop ! $ fsplit ! $ drop ! $
+              fsplit ! $ drop ! $ fsplit ! $ drop ! $ fsplit ! $
+              use1 W (‵ ((ShrSlice (named 1) κ1 u8) .own p5 (sliceVal (p5 .ptr) (length (p5 .now)) ∷ [])) ⊛ ‵ ((ShrSlice (named 1) κ1 u8) .own p5 (sliceVal (p5 .ptr) (length (p5 .now)) ∷ []))) (shr-slice-copy 𝓤 H A W (named 1) κ1 u8 .twice p5 (sliceVal (p5 .ptr) (length (p5 .now)) ∷ [])) $
+              split ! $
+              move ! (6 ∷ 3 ∷ []) $ looks ! tt D0.the-row (Is D0.the-row) (shows 𝓤 H A D0.the-row) (LL.vals D0.the-type D0′.the-laws) (LL.tells D0.the-type D0′.the-laws) (LL.copy D0.the-type D0′.the-copy 𝓤 H A W) h b o (λ s0 vs0. spelt ! D0.the-row (Is D0.the-row) (shows 𝓤 H A D0.the-row) (LL.vals D0.the-type D0′.the-laws) (LL.tells D0.the-type D0′.the-laws) s0 h vs0 b o $
+              move ! (1 ∷ []) $ peeks ! D0.the-row (Is D0.the-row) (shows 𝓤 H A D0.the-row) h (LL.val D0.the-type D0′.the-laws h ∷ []) (λ was. sets ! (reads-behind ! 10 refl 1 refl) 16 refl (LL.lawful D0.the-type D0′.the-laws 𝓤 H A W .typed h _ was .0) $
+              move ! (1 ∷ 0 ∷ 2 ∷ []) $ shuts ! tt D0.the-row s0 h (LL.val D0.the-type D0′.the-laws h ∷ []) b o $ move ! (5 ∷ 2 ∷ []) $ join ! $
+              use1 W (raw (Callee 𝓤 H A at-mem run .pre to)) (goes-in was) $
+              calls-at ! fm (Callee 𝓤 H A at-mem run) known to (and-then ! (reads ! 13 refl) (and-then ! (reads ! 8 refl) (and-then ! (reads ! 9 refl) (and-then ! (reads ! 10 refl) (and-then ! (reads ! 11 refl) (and-then ! (reads ! 12 refl) (no-more !))))))) (λ v.
+              use1 W (later (some (λ (r : Verdict). ((‵ (flft κ1 q1) ⊛ ‵ ftrue) ⊛ ‵ (D1.the-row .own r (v ∷ []))) ⊛ raw (ensured 𝓤 H A judge-value.ended (judge-value.clauses 𝓤 H A at-mem run) (κ1, tt) (h, (p1, (p2, (p3, (p4, (p5, tt)))))) tt r)))) (id⊢ 𝓤 _) $
+              await ! tt $ pick ! (λ r. split ! $ move ! (1 ∷ []) $ use1 W (some (λ (zs : (Unit {0} × (Unit {0} × (Unit {0} × (Unit {0} × (Unit {0} × (Unit {0} × Unit {0}))))))). ‵ (lasts judge-value.ended (κ1, tt) (h, (p1, (p2, (p3, (p4, (p5, tt)))))) zs) ⊛ raw (fact 𝓤 (r ≡ verdictFor h p1 p2 p3 p4 (p5 .now))))) (id⊢ 𝓤 _) $
+              pick ! (λ zs. split ! $ move ! (1 ∷ []) $ heard ! (r ≡ verdictFor h p1 p2 p3 p4 (p5 .now)) (λ eq.
+              drop ! $ split ! $ move ! (1 ∷ []) $ peeks ! D1.the-row (Is D1.the-row) (shows 𝓤 H A D1.the-row) r (v ∷ []) (λ is.
+              land ! (from ! (stop !)) (init ! 7 refl (LL.lawful D1.the-type D1′.the-laws 𝓤 H A W .typed r _ is .0)) $
+              returns ! (look ! 7 refl) $ frees ! 7 (_ ∷ _ ∷ _ ∷ _ ∷ _ ∷ _ ∷ _ ∷ _ ∷ []) refl $
+              keep ! (6 ∷ 3 ∷ 0 ∷ 2 ∷ 1 ∷ 4 ∷ []) $ by ! (exits r v eq)))))))),
+        ))
 
 module _ {M : Type 1} (𝓤 : URA M) (H : Heap 𝓤) (A : Atoms 𝓤) (W : Given 𝓤 H A) (at-mem : Memory → SProp 𝓤) (run : Routine → Fun 𝓤) where
   walks : (C : Calls 𝓤 H) (Λ : Loops 𝓤 H) → FmC 𝓤 H (W .laws) C → Triple 𝓤 (C #dsg_frames·judge-value) (Callee 𝓤 H A at-mem run)

@@ -4,14 +4,15 @@
 use Rattle.dsg.proofs.Walk.{_≡_, refl, ap, ℕ, [], _∷_, List, URA, named, w8, w64, Val, vint, vptr, SProp, ent, emp, via, fst∗, id⊢, GName, Lft, Share}
 use Rattle.dsg.proofs.Walk.{ftrue, flft, fres, fshr-bor, Memory, Routine, Heap, Calls, Loops, WpFn, Tables, Atoms, Fun, fact, givenOf, tables, tablesOf}
 use Rattle.dsg.proofs.Walk.{Given, Item, ‵, raw, _⊛_, ⋆, some, later, _$_, _∵_, !, qed, by, move, keep, drop, use1, split, join, pick, fsplit, fsplit3}
-use Rattle.dsg.proofs.Walk.{fjoin, fjoin3, feqI, suffices, frame, await, done, look, init, forget, stop, hop, fld, from, load, addr, of-opd, and-then}
-use Rattle.dsg.proofs.Walk.{no-more, assigns, land, returns, enter, alloc1, alloc0, params1, pass1, pass0, free1, free0, whole, sub, look-in, FmC, fmOf}
+use Rattle.dsg.proofs.Walk.{fjoin, fjoin3, feqI, suffices, frame, await, done, look, init, stop, hop, fld, from, load, addr, of-opd, and-then}
+use Rattle.dsg.proofs.Walk.{no-more, land, returns, whole, sub, look-in, FmC, fmOf}
 use Rattle.dsg.proofs.Walk.{WpFn-mono, owns, Is, shows, mem, partAt, uint-makes, uint-lawful, u8, u16, u32, u64, ShrSlice, sliceVal, slice-vals}
 use Rattle.dsg.proofs.Walk.{shr-slice-tells, shr-slice-lawful, shr-slice-copy, length, RefT, ShrRef, ptr-vals, shr-tells, plain, looks, shuts, owned}
 use Rattle.dsg.proofs.Walk.{peeks, heard, nothing, spelt, onEntry, Meets, tripleOf, Contract, Triple, calls-at, ensured, lasts, entered, cited, says}
 use Rattle.dsg.proofs.Walk.{Stays, stay-none-ref, stay-none-slice, walkOf, AllGo, goes-none-ref, goes-none-slice, Walks, ends-at, walked, walk-meets, yes}
-use types.Tokens.{shr-bor-dup, name-new}
-use types.Kit.{use2}
+use Rattle.dsg.proofs.Locals.{begins, frees}
+use Rattle.dsg.proofs.Reading.{reads, sets}
+use Rattle.dsg.proofs.Lent.{lends}
 use borrow.Struct.Share.{part-field}
 use denote.Array.{Array}
 use Prim.Native.Nat.{_+_}
@@ -95,79 +96,43 @@ module _ {M : Type 1} (𝓤 : URA M) (H : Heap 𝓤) (A : Atoms 𝓤) (W : Given
     walk : ent 𝓤 (onEntry 𝓤 H A dsg-judge-prepared.signature (κ0, (κ1, tt)) (q0, (q1, tt)) x at) (WpFn 𝓤 H C Λ code.function (vptr b o ∷ sliceVal (p .ptr) (length (p .now)) ∷ []) Post)
     walk =
         qed W ((‵ (flft κ0 q0) ⊛ ‵ (flft κ1 q1) ⊛ ‵ ftrue) ∷ ‵ (owns (ShrRef (named 0) κ0 D0.the-row ∷ (ShrSlice (named 1) κ1 u8) ∷ []) x at) ∷ []) ∵
-        enter ! C Λ code.function (vptr b o ∷ sliceVal (p .ptr) (length (p .now)) ∷ []) _ $
-        alloc1 ! (λ l0. alloc1 ! (λ l1. alloc1 ! (λ l2. alloc1 ! (λ l3. alloc1 ! (λ l4. alloc1 ! (λ l5. alloc1 ! (λ l6. alloc1 ! (λ l7. alloc1 ! (λ l8. alloc1 ! (λ l9. alloc1 ! (λ l10. alloc1 ! (λ l11. alloc1 ! (λ l12. alloc0 ! $ params1 ! $
-        pass1 ! (init ! 22 refl (tt, tt)) $ pass1 ! (init ! 20 refl (shr-slice-lawful 𝓤 H A W (named 1) κ1 u8 .typed p _ is-p .0)) $ pass0 ! $
-        move ! (27 ∷ []) $ fsplit ! $ fsplit3 ! $ drop ! $ move ! (29 ∷ []) $ split ! $ move ! (4 ∷ []) $ fsplit ! $
-        use1 W (‵ ((ShrSlice (named 1) κ1 u8) .own p (sliceVal (p .ptr) (length (p .now)) ∷ [])) ⊛ ‵ ((ShrSlice (named 1) κ1 u8) .own p (sliceVal (p .ptr) (length (p .now)) ∷ []))) (shr-slice-copy 𝓤 H A W (named 1) κ1 u8 .twice p (sliceVal (p .ptr) (length (p .now)) ∷ [])) $
-        split ! $
-        move ! (6 ∷ 3 ∷ []) $
-        looks ! tt D0.the-row (Is D0.the-row) (shows 𝓤 H A D0.the-row) (LL.vals D0.the-type D0′.the-laws) (LL.tells D0.the-type D0′.the-laws) (LL.copy D0.the-type D0′.the-copy 𝓤 H A W) h b o (λ s vs. spelt ! D0.the-row (Is D0.the-row) (shows 𝓤 H A D0.the-row) (LL.vals D0.the-type D0′.the-laws) (LL.tells D0.the-type D0′.the-laws) s h vs b o $
-        move ! (1 ∷ []) $
-        peeks ! D0.the-row (Is D0.the-row) (shows 𝓤 H A D0.the-row) h (LL.val D0.the-type D0′.the-laws h ∷ []) (λ was. assigns ! (of-opd ! (load ! (from ! (hop ! (look ! 31 refl) (fld ! refl (stop !)))) (look-in ! 1 (sub ! 1 refl (whole !))))) (from ! (stop !)) (init ! 27 refl (uint-lawful 𝓤 H A W w8 .typed (h .mode) _ (LL.owed D0.the-type D0′.the-laws h _ was .1 .0) .0)) $
-        assigns ! (of-opd ! (load ! (from ! (hop ! (look ! 31 refl) (fld ! refl (stop !)))) (look-in ! 1 (sub ! 0 refl (whole !))))) (from ! (stop !)) (init ! 25 refl (uint-lawful 𝓤 H A W w64 .typed (h .address) _ (LL.owed D0.the-type D0′.the-laws h _ was .0) .0)) $
-        assigns ! (of-opd ! (load ! (from ! (hop ! (look ! 31 refl) (fld ! refl (stop !)))) (look-in ! 1 (sub ! 2 refl (whole !))))) (from ! (stop !)) (init ! 23 refl (uint-lawful 𝓤 H A W w8 .typed (h .count) _ (LL.owed D0.the-type D0′.the-laws h _ was .1 .1 .0) .0)) $
-        assigns ! (addr ! (from ! (hop ! (look ! 31 refl) (fld ! refl (stop !))))) (from ! (stop !)) (init ! 21 refl (tt, tt)) $
-        assigns ! (addr ! (from ! (hop ! (look ! 31 refl) (fld ! refl (stop !))))) (from ! (stop !)) (init ! 19 refl (tt, tt)) $
-        assigns ! (addr ! (from ! (hop ! (look ! 31 refl) (fld ! refl (stop !))))) (from ! (stop !)) (init ! 17 refl (tt, tt)) $
-        assigns ! (addr ! (from ! (hop ! (look ! 31 refl) (fld ! refl (stop !))))) (from ! (stop !)) (init ! 15 refl (tt, tt)) $
-        assigns ! (addr ! (from ! (hop ! (look ! 31 refl) (fld ! refl (stop !))))) (from ! (stop !)) (init ! 13 refl (tt, tt)) $
-        assigns ! (addr ! (from ! (hop ! (look ! 31 refl) (fld ! refl (stop !))))) (from ! (stop !)) (init ! 11 refl (tt, tt)) $
-        assigns ! (addr ! (from ! (hop ! (look ! 31 refl) (fld ! refl (stop !))))) (from ! (stop !)) (init ! 9 refl (tt, tt)) $
-        move ! (1 ∷ 0 ∷ 2 ∷ []) $ shuts ! tt D0.the-row s h (LL.val D0.the-type D0′.the-laws h ∷ []) b o $
-        move ! (1 ∷ []) $ shr-bor-dup ! $ move ! (1 ∷ 2 ∷ []) $
-        use2 W (later (‵ (fshr-bor κ0 (λ s. partAt (Array u32 32) s (map (λ x. x) (h .destinations)) b (o + 12))) ⊛ ‵ (flft κ0 q0))) (part-field 𝓤 H A W D0.the-type D0′.the-laws D0′.the-copy 3 12 refl refl (D0.struct .as-values) (λ y. refl) κ0 q0 h b o) $
-        await ! tt $ split ! $
-        name-new ! tt ((Array u32 32) .coded .code (map (λ x. x) (h .destinations))) (λ g3. use1 W (‵ (fres g3 ((Array u32 32) .coded .code (map (λ x. x) (h .destinations))))) (W .names .obs-res g3 ((Array u32 32) .coded .code (map (λ x. x) (h .destinations)))) $
-        move ! (1 ∷ []) $ drop ! $ feqI ! (List Val) (vptr b (o + 12) ∷ []) (vptr b (o + 12) ∷ []) refl $ fjoin3 ! $
-        move ! (2 ∷ []) $ shr-bor-dup ! $ move ! (1 ∷ 3 ∷ []) $
-        use2 W (later (‵ (fshr-bor κ0 (λ s. partAt (Array u32 32) s (map (λ x. x) (h .sources)) b (o + 140))) ⊛ ‵ (flft κ0 q0))) (part-field 𝓤 H A W D0.the-type D0′.the-laws D0′.the-copy 4 140 refl refl (D0.struct .as-values) (λ y. refl) κ0 q0 h b o) $
-        await ! tt $ split ! $
-        name-new ! tt ((Array u32 32) .coded .code (map (λ x. x) (h .sources))) (λ g4. use1 W (‵ (fres g4 ((Array u32 32) .coded .code (map (λ x. x) (h .sources))))) (W .names .obs-res g4 ((Array u32 32) .coded .code (map (λ x. x) (h .sources)))) $
-        move ! (1 ∷ []) $ drop ! $ feqI ! (List Val) (vptr b (o + 140) ∷ []) (vptr b (o + 140) ∷ []) refl $ fjoin3 ! $
-        move ! (2 ∷ []) $ shr-bor-dup ! $ move ! (1 ∷ 3 ∷ []) $
-        use2 W (later (‵ (fshr-bor κ0 (λ s. partAt (Array u32 32) s (map (λ x. x) (h .masks)) b (o + 268))) ⊛ ‵ (flft κ0 q0))) (part-field 𝓤 H A W D0.the-type D0′.the-laws D0′.the-copy 5 268 refl refl (D0.struct .as-values) (λ y. refl) κ0 q0 h b o) $
-        await ! tt $ split ! $
-        name-new ! tt ((Array u32 32) .coded .code (map (λ x. x) (h .masks))) (λ g5. use1 W (‵ (fres g5 ((Array u32 32) .coded .code (map (λ x. x) (h .masks))))) (W .names .obs-res g5 ((Array u32 32) .coded .code (map (λ x. x) (h .masks)))) $
-        move ! (1 ∷ []) $ drop ! $ feqI ! (List Val) (vptr b (o + 268) ∷ []) (vptr b (o + 268) ∷ []) refl $ fjoin3 ! $
-        move ! (2 ∷ []) $ shr-bor-dup ! $ move ! (1 ∷ 3 ∷ []) $
-        use2 W (later (‵ (fshr-bor κ0 (λ s. partAt (Array u16 32) s (map (λ x. x) (h .starts)) b (o + 396))) ⊛ ‵ (flft κ0 q0))) (part-field 𝓤 H A W D0.the-type D0′.the-laws D0′.the-copy 6 396 refl refl (D0.struct .as-values) (λ y. refl) κ0 q0 h b o) $
-        await ! tt $ split ! $
-        name-new ! tt ((Array u16 32) .coded .code (map (λ x. x) (h .starts))) (λ g6. use1 W (‵ (fres g6 ((Array u16 32) .coded .code (map (λ x. x) (h .starts))))) (W .names .obs-res g6 ((Array u16 32) .coded .code (map (λ x. x) (h .starts)))) $
-        move ! (1 ∷ []) $ drop ! $ feqI ! (List Val) (vptr b (o + 396) ∷ []) (vptr b (o + 396) ∷ []) refl $ fjoin3 ! $
-        move ! (2 ∷ []) $ shr-bor-dup ! $ move ! (1 ∷ 3 ∷ []) $
-        use2 W (later (‵ (fshr-bor κ0 (λ s. partAt (Array u16 32) s (map (λ x. x) (h .ends)) b (o + 460))) ⊛ ‵ (flft κ0 q0))) (part-field 𝓤 H A W D0.the-type D0′.the-laws D0′.the-copy 7 460 refl refl (D0.struct .as-values) (λ y. refl) κ0 q0 h b o) $
-        await ! tt $ split ! $
-        name-new ! tt ((Array u16 32) .coded .code (map (λ x. x) (h .ends))) (λ g7. use1 W (‵ (fres g7 ((Array u16 32) .coded .code (map (λ x. x) (h .ends))))) (W .names .obs-res g7 ((Array u16 32) .coded .code (map (λ x. x) (h .ends)))) $
-        move ! (1 ∷ []) $ drop ! $ feqI ! (List Val) (vptr b (o + 460) ∷ []) (vptr b (o + 460) ∷ []) refl $ fjoin3 ! $
-        move ! (2 ∷ []) $ shr-bor-dup ! $ move ! (1 ∷ 3 ∷ []) $
-        use2 W (later (‵ (fshr-bor κ0 (λ s. partAt (Array u16 32) s (map (λ x. x) (h .numbers)) b (o + 524))) ⊛ ‵ (flft κ0 q0))) (part-field 𝓤 H A W D0.the-type D0′.the-laws D0′.the-copy 8 524 refl refl (D0.struct .as-values) (λ y. refl) κ0 q0 h b o) $
-        await ! tt $ split ! $
-        name-new ! tt ((Array u16 32) .coded .code (map (λ x. x) (h .numbers))) (λ g8. use1 W (‵ (fres g8 ((Array u16 32) .coded .code (map (λ x. x) (h .numbers))))) (W .names .obs-res g8 ((Array u16 32) .coded .code (map (λ x. x) (h .numbers)))) $
-        move ! (1 ∷ []) $ drop ! $ feqI ! (List Val) (vptr b (o + 524) ∷ []) (vptr b (o + 524) ∷ []) refl $ fjoin3 ! $
-        move ! (2 ∷ []) $ shr-bor-dup ! $ move ! (1 ∷ 3 ∷ []) $
-        use2 W (later (‵ (fshr-bor κ0 (λ s. partAt (Array u8 32) s (map (λ x. x) (h .ports)) b (o + 588))) ⊛ ‵ (flft κ0 q0))) (part-field 𝓤 H A W D0.the-type D0′.the-laws D0′.the-copy 9 588 refl refl (D0.struct .as-values) (λ y. refl) κ0 q0 h b o) $
-        await ! tt $ split ! $
-        name-new ! tt ((Array u8 32) .coded .code (map (λ x. x) (h .ports))) (λ g9. use1 W (‵ (fres g9 ((Array u8 32) .coded .code (map (λ x. x) (h .ports))))) (W .names .obs-res g9 ((Array u8 32) .coded .code (map (λ x. x) (h .ports)))) $
-        move ! (1 ∷ []) $ drop ! $ feqI ! (List Val) (vptr b (o + 588) ∷ []) (vptr b (o + 588) ∷ []) refl $ fjoin3 ! $
-        move ! (1 ∷ 12 ∷ []) $ join ! $ move ! (0 ∷ 8 ∷ []) $ join ! $ move ! (0 ∷ 7 ∷ []) $ join ! $ move ! (0 ∷ 6 ∷ []) $ join ! $
-        move ! (0 ∷ 5 ∷ []) $ join ! $ move ! (0 ∷ 4 ∷ []) $ join ! $ move ! (0 ∷ 3 ∷ []) $ join ! $ join ! $ move ! (0 ∷ 2 ∷ []) $ join ! $
-        use1 W (raw (Callee 𝓤 H A at-mem run .pre (to g3 g4 g5 g6 g7 g8 g9))) (goes-in g3 g4 g5 g6 g7 g8 g9 was) $
-        calls-at ! fm (Callee 𝓤 H A at-mem run) known (to g3 g4 g5 g6 g7 g8 g9) (and-then ! (load ! (from ! (stop !)) (look ! 23 refl)) (and-then ! (load ! (from ! (stop !)) (look ! 21 refl)) (and-then ! (load ! (from ! (stop !)) (look ! 19 refl)) (and-then ! (load ! (from ! (stop !)) (look ! 17 refl)) (and-then ! (load ! (from ! (stop !)) (look ! 15 refl)) (and-then ! (load ! (from ! (stop !)) (look ! 13 refl)) (and-then ! (load ! (from ! (stop !)) (look ! 11 refl)) (and-then ! (load ! (from ! (stop !)) (look ! 9 refl)) (and-then ! (load ! (from ! (stop !)) (look ! 7 refl)) (and-then ! (load ! (from ! (stop !)) (look ! 5 refl)) (and-then ! (load ! (from ! (stop !)) (look ! 25 refl)) (no-more !)))))))))))) (λ v.
-        use1 W (later (some (λ (r : Verdict). ((‵ (flft κ0 q0) ⊛ ‵ (flft κ1 q1) ⊛ ‵ ftrue) ⊛ ‵ (D1.the-row .own r (v ∷ []))) ⊛ raw (ensured 𝓤 H A judge-parts.ended (judge-parts.clauses 𝓤 H A at-mem run) (κ0, (κ1, tt)) (h .mode, (h .address, (h .count, ((record { ptr = (b, o + 12); name = g3; now = map (λ x. x) (h .destinations) }), ((record { ptr = (b, o + 140); name = g4; now = map (λ x. x) (h .sources) }), ((record { ptr = (b, o + 268); name = g5; now = map (λ x. x) (h .masks) }), ((record { ptr = (b, o + 396); name = g6; now = map (λ x. x) (h .starts) }), ((record { ptr = (b, o + 460); name = g7; now = map (λ x. x) (h .ends) }), ((record { ptr = (b, o + 524); name = g8; now = map (λ x. x) (h .numbers) }), ((record { ptr = (b, o + 588); name = g9; now = map (λ x. x) (h .ports) }), (p, tt))))))))))) tt r)))) (id⊢ 𝓤 _) $
-        await ! tt $ pick ! (λ r. split ! $ move ! (1 ∷ []) $
-        use1 W (some (λ (zs : (Unit {0} × (Unit {0} × (Unit {0} × (Unit {0} × (Unit {0} × (Unit {0} × (Unit {0} × (Unit {0} × (Unit {0} × (Unit {0} × (Unit {0} × Unit {0})))))))))))). ‵ (lasts judge-parts.ended (κ0, (κ1, tt)) (h .mode, (h .address, (h .count, ((record { ptr = (b, o + 12); name = g3; now = map (λ x. x) (h .destinations) }), ((record { ptr = (b, o + 140); name = g4; now = map (λ x. x) (h .sources) }), ((record { ptr = (b, o + 268); name = g5; now = map (λ x. x) (h .masks) }), ((record { ptr = (b, o + 396); name = g6; now = map (λ x. x) (h .starts) }), ((record { ptr = (b, o + 460); name = g7; now = map (λ x. x) (h .ends) }), ((record { ptr = (b, o + 524); name = g8; now = map (λ x. x) (h .numbers) }), ((record { ptr = (b, o + 588); name = g9; now = map (λ x. x) (h .ports) }), (p, tt))))))))))) zs) ⊛ raw (fact 𝓤 (r ≡ verdictAs (preparedVerdict (lentTunnel (h .mode) (h .address) (h .count) (map (λ x. x) (h .destinations)) (map (λ x. x) (h .sources)) (map (λ x. x) (h .masks)) (map (λ x. x) (h .starts)) (map (λ x. x) (h .ends)) (map (λ x. x) (h .numbers)) (map (λ x. x) (h .ports))) (p .now)) (length (p .now)))))) (id⊢ 𝓤 _) $
-        pick ! (λ zs. split ! $ move ! (1 ∷ []) $
-        heard ! (r ≡ verdictAs (preparedVerdict (lentTunnel (h .mode) (h .address) (h .count) (map (λ x. x) (h .destinations)) (map (λ x. x) (h .sources)) (map (λ x. x) (h .masks)) (map (λ x. x) (h .starts)) (map (λ x. x) (h .ends)) (map (λ x. x) (h .numbers)) (map (λ x. x) (h .ports))) (p .now)) (length (p .now))) (λ eq.
-        drop ! $ split ! $ move ! (1 ∷ []) $ peeks ! D1.the-row (Is D1.the-row) (shows 𝓤 H A D1.the-row) r (v ∷ []) (λ is.
-        land ! (from ! (stop !)) (init ! 30 refl (LL.lawful D1.the-type D1′.the-laws 𝓤 H A W .typed r _ is .0)) $
-        returns ! (look ! 30 refl) $ forget ! 30 refl $ forget ! 28 refl $ forget ! 26 refl $ forget ! 24 refl $ forget ! 22 refl $ forget ! 20 refl $
-        forget ! 18 refl $ forget ! 16 refl $ forget ! 14 refl $ forget ! 12 refl $ forget ! 10 refl $ forget ! 8 refl $ forget ! 6 refl $
-        move ! (30 ∷ 31 ∷ []) $ free1 ! $ move ! (28 ∷ 29 ∷ []) $ free1 ! $ move ! (26 ∷ 27 ∷ []) $ free1 ! $ move ! (24 ∷ 25 ∷ []) $ free1 ! $
-        move ! (22 ∷ 23 ∷ []) $ free1 ! $ move ! (20 ∷ 21 ∷ []) $ free1 ! $ move ! (18 ∷ 19 ∷ []) $ free1 ! $ move ! (16 ∷ 17 ∷ []) $ free1 ! $
-        move ! (14 ∷ 15 ∷ []) $ free1 ! $ move ! (12 ∷ 13 ∷ []) $ free1 ! $ move ! (10 ∷ 11 ∷ []) $ free1 ! $ move ! (8 ∷ 9 ∷ []) $ free1 ! $
-        move ! (6 ∷ 7 ∷ []) $ free1 ! $ free0 ! $
-        keep ! (5 ∷ 2 ∷ 0 ∷ 1 ∷ 3 ∷ []) $ by ! (exits r v (same r eq)))))))))))))))))))))))))))))
+        begins ! C Λ code.function (vptr b o ∷ sliceVal (p .ptr) (length (p .now)) ∷ []) _
+        (λ l0 l1 l2 l3 l4 l5 l6 l7 l8 l9 l10 l11 l12. (
+          ((tt, tt), ((shr-slice-lawful 𝓤 H A W (named 1) κ1 u8 .typed p _ is-p .0), tt)),
+          move ! (1 ∷ []) $ fsplit ! $ fsplit3 ! $ drop ! $ move ! (3 ∷ []) $ split ! $ move ! (4 ∷ []) $ fsplit ! $
+              use1 W (‵ ((ShrSlice (named 1) κ1 u8) .own p (sliceVal (p .ptr) (length (p .now)) ∷ [])) ⊛ ‵ ((ShrSlice (named 1) κ1 u8) .own p (sliceVal (p .ptr) (length (p .now)) ∷ []))) (shr-slice-copy 𝓤 H A W (named 1) κ1 u8 .twice p (sliceVal (p .ptr) (length (p .now)) ∷ [])) $
+              split ! $
+              move ! (6 ∷ 3 ∷ []) $ looks ! tt D0.the-row (Is D0.the-row) (shows 𝓤 H A D0.the-row) (LL.vals D0.the-type D0′.the-laws) (LL.tells D0.the-type D0′.the-laws) (LL.copy D0.the-type D0′.the-copy 𝓤 H A W) h b o (λ s vs. spelt ! D0.the-row (Is D0.the-row) (shows 𝓤 H A D0.the-row) (LL.vals D0.the-type D0′.the-laws) (LL.tells D0.the-type D0′.the-laws) s h vs b o $
+              move ! (1 ∷ []) $ peeks ! D0.the-row (Is D0.the-row) (shows 𝓤 H A D0.the-row) h (LL.val D0.the-type D0′.the-laws h ∷ []) (λ was. sets ! (of-opd ! (load ! (from ! (hop ! (look ! 10 refl) (fld ! refl (stop !)))) (look-in ! 1 (sub ! 1 refl (whole !))))) 12 refl (uint-lawful 𝓤 H A W w8 .typed (h .mode) _ (LL.owed D0.the-type D0′.the-laws h _ was .1 .0) .0) $
+              sets ! (of-opd ! (load ! (from ! (hop ! (look ! 10 refl) (fld ! refl (stop !)))) (look-in ! 1 (sub ! 0 refl (whole !))))) 13 refl (uint-lawful 𝓤 H A W w64 .typed (h .address) _ (LL.owed D0.the-type D0′.the-laws h _ was .0) .0) $
+              sets ! (of-opd ! (load ! (from ! (hop ! (look ! 10 refl) (fld ! refl (stop !)))) (look-in ! 1 (sub ! 2 refl (whole !))))) 14 refl (uint-lawful 𝓤 H A W w8 .typed (h .count) _ (LL.owed D0.the-type D0′.the-laws h _ was .1 .1 .0) .0) $
+              sets ! (addr ! (from ! (hop ! (look ! 10 refl) (fld ! refl (stop !))))) 15 refl (tt, tt) $
+              sets ! (addr ! (from ! (hop ! (look ! 10 refl) (fld ! refl (stop !))))) 16 refl (tt, tt) $
+              sets ! (addr ! (from ! (hop ! (look ! 10 refl) (fld ! refl (stop !))))) 17 refl (tt, tt) $
+              sets ! (addr ! (from ! (hop ! (look ! 10 refl) (fld ! refl (stop !))))) 18 refl (tt, tt) $
+              sets ! (addr ! (from ! (hop ! (look ! 10 refl) (fld ! refl (stop !))))) 19 refl (tt, tt) $
+              sets ! (addr ! (from ! (hop ! (look ! 10 refl) (fld ! refl (stop !))))) 20 refl (tt, tt) $
+              sets ! (addr ! (from ! (hop ! (look ! 10 refl) (fld ! refl (stop !))))) 21 refl (tt, tt) $
+              move ! (1 ∷ 0 ∷ 2 ∷ []) $ shuts ! tt D0.the-row s h (LL.val D0.the-type D0′.the-laws h ∷ []) b o $
+              move ! (1 ∷ 0 ∷ []) $ lends ! tt (Array u32 32) (map (λ x. x) (h .destinations)) b (o + 12) (part-field 𝓤 H A W D0.the-type D0′.the-laws D0′.the-copy 3 12 refl refl (D0.struct .as-values) (λ y. refl) κ0 q0 h b o) (λ g3.
+              lends ! tt (Array u32 32) (map (λ x. x) (h .sources)) b (o + 140) (part-field 𝓤 H A W D0.the-type D0′.the-laws D0′.the-copy 4 140 refl refl (D0.struct .as-values) (λ y. refl) κ0 q0 h b o) (λ g4.
+              lends ! tt (Array u32 32) (map (λ x. x) (h .masks)) b (o + 268) (part-field 𝓤 H A W D0.the-type D0′.the-laws D0′.the-copy 5 268 refl refl (D0.struct .as-values) (λ y. refl) κ0 q0 h b o) (λ g5.
+              lends ! tt (Array u16 32) (map (λ x. x) (h .starts)) b (o + 396) (part-field 𝓤 H A W D0.the-type D0′.the-laws D0′.the-copy 6 396 refl refl (D0.struct .as-values) (λ y. refl) κ0 q0 h b o) (λ g6.
+              lends ! tt (Array u16 32) (map (λ x. x) (h .ends)) b (o + 460) (part-field 𝓤 H A W D0.the-type D0′.the-laws D0′.the-copy 7 460 refl refl (D0.struct .as-values) (λ y. refl) κ0 q0 h b o) (λ g7.
+              lends ! tt (Array u16 32) (map (λ x. x) (h .numbers)) b (o + 524) (part-field 𝓤 H A W D0.the-type D0′.the-laws D0′.the-copy 8 524 refl refl (D0.struct .as-values) (λ y. refl) κ0 q0 h b o) (λ g8.
+              lends ! tt (Array u8 32) (map (λ x. x) (h .ports)) b (o + 588) (part-field 𝓤 H A W D0.the-type D0′.the-laws D0′.the-copy 9 588 refl refl (D0.struct .as-values) (λ y. refl) κ0 q0 h b o) (λ g9.
+              move ! (2 ∷ 1 ∷ 0 ∷ []) $ move ! (1 ∷ 12 ∷ []) $ join ! $ move ! (0 ∷ 8 ∷ []) $ join ! $ move ! (0 ∷ 7 ∷ []) $ join ! $ move ! (0 ∷ 6 ∷ []) $ join ! $
+              move ! (0 ∷ 5 ∷ []) $ join ! $ move ! (0 ∷ 4 ∷ []) $ join ! $ move ! (0 ∷ 3 ∷ []) $ join ! $ join ! $ move ! (0 ∷ 2 ∷ []) $ join ! $
+              use1 W (raw (Callee 𝓤 H A at-mem run .pre (to g3 g4 g5 g6 g7 g8 g9))) (goes-in g3 g4 g5 g6 g7 g8 g9 was) $
+              calls-at ! fm (Callee 𝓤 H A at-mem run) known (to g3 g4 g5 g6 g7 g8 g9) (and-then ! (reads ! 8 refl) (and-then ! (reads ! 9 refl) (and-then ! (reads ! 10 refl) (and-then ! (reads ! 11 refl) (and-then ! (reads ! 12 refl) (and-then ! (reads ! 13 refl) (and-then ! (reads ! 14 refl) (and-then ! (reads ! 15 refl) (and-then ! (reads ! 16 refl) (and-then ! (reads ! 17 refl) (and-then ! (reads ! 7 refl) (no-more !)))))))))))) (λ v.
+              use1 W (later (some (λ (r : Verdict). ((‵ (flft κ0 q0) ⊛ ‵ (flft κ1 q1) ⊛ ‵ ftrue) ⊛ ‵ (D1.the-row .own r (v ∷ []))) ⊛ raw (ensured 𝓤 H A judge-parts.ended (judge-parts.clauses 𝓤 H A at-mem run) (κ0, (κ1, tt)) (h .mode, (h .address, (h .count, ((record { ptr = (b, o + 12); name = g3; now = map (λ x. x) (h .destinations) }), ((record { ptr = (b, o + 140); name = g4; now = map (λ x. x) (h .sources) }), ((record { ptr = (b, o + 268); name = g5; now = map (λ x. x) (h .masks) }), ((record { ptr = (b, o + 396); name = g6; now = map (λ x. x) (h .starts) }), ((record { ptr = (b, o + 460); name = g7; now = map (λ x. x) (h .ends) }), ((record { ptr = (b, o + 524); name = g8; now = map (λ x. x) (h .numbers) }), ((record { ptr = (b, o + 588); name = g9; now = map (λ x. x) (h .ports) }), (p, tt))))))))))) tt r)))) (id⊢ 𝓤 _) $
+              await ! tt $ pick ! (λ r. split ! $ move ! (1 ∷ []) $ use1 W (some (λ (zs : (Unit {0} × (Unit {0} × (Unit {0} × (Unit {0} × (Unit {0} × (Unit {0} × (Unit {0} × (Unit {0} × (Unit {0} × (Unit {0} × (Unit {0} × Unit {0})))))))))))). ‵ (lasts judge-parts.ended (κ0, (κ1, tt)) (h .mode, (h .address, (h .count, ((record { ptr = (b, o + 12); name = g3; now = map (λ x. x) (h .destinations) }), ((record { ptr = (b, o + 140); name = g4; now = map (λ x. x) (h .sources) }), ((record { ptr = (b, o + 268); name = g5; now = map (λ x. x) (h .masks) }), ((record { ptr = (b, o + 396); name = g6; now = map (λ x. x) (h .starts) }), ((record { ptr = (b, o + 460); name = g7; now = map (λ x. x) (h .ends) }), ((record { ptr = (b, o + 524); name = g8; now = map (λ x. x) (h .numbers) }), ((record { ptr = (b, o + 588); name = g9; now = map (λ x. x) (h .ports) }), (p, tt))))))))))) zs) ⊛ raw (fact 𝓤 (r ≡ verdictAs (preparedVerdict (lentTunnel (h .mode) (h .address) (h .count) (map (λ x. x) (h .destinations)) (map (λ x. x) (h .sources)) (map (λ x. x) (h .masks)) (map (λ x. x) (h .starts)) (map (λ x. x) (h .ends)) (map (λ x. x) (h .numbers)) (map (λ x. x) (h .ports))) (p .now)) (length (p .now)))))) (id⊢ 𝓤 _) $
+              pick ! (λ zs. split ! $ move ! (1 ∷ []) $ heard ! (r ≡ verdictAs (preparedVerdict (lentTunnel (h .mode) (h .address) (h .count) (map (λ x. x) (h .destinations)) (map (λ x. x) (h .sources)) (map (λ x. x) (h .masks)) (map (λ x. x) (h .starts)) (map (λ x. x) (h .ends)) (map (λ x. x) (h .numbers)) (map (λ x. x) (h .ports))) (p .now)) (length (p .now))) (λ eq.
+              drop ! $ split ! $ move ! (1 ∷ []) $ peeks ! D1.the-row (Is D1.the-row) (shows 𝓤 H A D1.the-row) r (v ∷ []) (λ is.
+              land ! (from ! (stop !)) (init ! 6 refl (LL.lawful D1.the-type D1′.the-laws 𝓤 H A W .typed r _ is .0)) $
+              returns ! (look ! 6 refl) $ frees ! 6 (_ ∷ _ ∷ _ ∷ _ ∷ _ ∷ _ ∷ _ ∷ _ ∷ _ ∷ _ ∷ _ ∷ _ ∷ _ ∷ []) refl $
+              keep ! (5 ∷ 2 ∷ 0 ∷ 1 ∷ 3 ∷ []) $ by ! (exits r v (same r eq)))))))))))))))),
+        ))
 
 module _ {M : Type 1} (𝓤 : URA M) (H : Heap 𝓤) (A : Atoms 𝓤) (W : Given 𝓤 H A) (at-mem : Memory → SProp 𝓤) (run : Routine → Fun 𝓤) where
   walks : (C : Calls 𝓤 H) (Λ : Loops 𝓤 H) → FmC 𝓤 H (W .laws) C → Triple 𝓤 (C #dsg_frames·judge-parts) (Callee 𝓤 H A at-mem run)

@@ -4,13 +4,15 @@
 use Rattle.dsg.proofs.Walk.{_≡_, refl, ap, ℕ, [], _∷_, List, URA, fullShare, named, Val, vptr, SProp, ent, emp, via, fst∗, id⊢, GName, Lft, Share, ftrue}
 use Rattle.dsg.proofs.Walk.{flft, fobs, fbor, fat, Memory, Routine, Heap, Calls, Loops, WpFn, Tables, Atoms, Fun, fact, givenOf, tables, tablesOf, Given}
 use Rattle.dsg.proofs.Walk.{Item, ‵, raw, _⊛_, ⋆, some, later, _$_, _∵_, !, qed, by, move, keep, drop, use1, split, join, pick, rewrite, fsplit, fsplit3}
-use Rattle.dsg.proofs.Walk.{fjoin, fjoin3, feqI, feqL, suffices, frame, await, done, look, look-raw, store-raw, init, forget, stop, hop, fld, from, load}
-use Rattle.dsg.proofs.Walk.{addr, of-opd, and-then, no-more, assigns, land, returns, enter, alloc1, alloc0, params1, pass1, pass0, free1, free0, agg}
+use Rattle.dsg.proofs.Walk.{fjoin, fjoin3, feqI, feqL, suffices, frame, await, done, look, store-raw, init, stop, hop, fld, from, load}
+use Rattle.dsg.proofs.Walk.{addr, and-then, no-more, assigns, land, returns, agg}
 use Rattle.dsg.proofs.Walk.{whole, sub, look-in, Body, FmC, fmOf, WpFn-mono, owns, Is, shows, mem, u8, ShrSlice, MutSlice, finally, mut-slice-tells}
 use Rattle.dsg.proofs.Walk.{mut-slice-lawful, sliceVal, slice-vals, shr-slice-tells, shr-slice-lawful, shr-slice-copy, length, RefT, MutRef, ptr-vals}
 use Rattle.dsg.proofs.Walk.{mut-tells, plain, only, opens, closes, owned, peeks, heard, nothing, spelt, onEntry, Meets, tripleOf, Contract, Triple}
 use Rattle.dsg.proofs.Walk.{calls-at, ensured, lasts, entered, cited, says, Stays, stay-ref, stay-none-slice, gave-slice, walkOf, AllGo, goes-none-slice}
 use Rattle.dsg.proofs.Walk.{goes-gave-slice, goes-ref, Walks, ends-at, walked, walk-meets, yes}
+use Rattle.dsg.proofs.Locals.{begins, frees}
+use Rattle.dsg.proofs.Reading.{reads, reads-behind, reads-field, sets}
 use denote.Struct.Laws as LL
 use Rattle.dsg_pieces.specs.Bodies.{collectAfter}
 use Rattle.collection.specs.declared.Collection.{Collection}
@@ -79,47 +81,36 @@ module _ {M : Type 1} (𝓤 : URA M) (H : Heap 𝓤) (A : Atoms 𝓤) (W : Given
     walk : ent 𝓤 (onEntry 𝓤 H A dsg-collect.signature (κ0, (κ1, (κ2, (κ3, tt)))) (q0, (q1, (q2, (q3, tt)))) x at) (WpFn 𝓤 H C Λ code.function (vptr b o ∷ sliceVal (p1 .ptr) (length (p1 .now)) ∷ sliceVal (p2 .ptr) (length (p2 .now)) ∷ sliceVal (p3 .ptr) (length (p3 .now)) ∷ []) Post)
     walk =
         qed W ((‵ (flft κ0 q0) ⊛ ‵ (flft κ1 q1) ⊛ ‵ (flft κ2 q2) ⊛ ‵ (flft κ3 q3) ⊛ ‵ ftrue) ∷ ‵ (owns (MutRef (named 0) κ0 D0.the-row ∷ (MutSlice (named 1) κ1 u8) ∷ (MutSlice (named 2) κ2 u8) ∷ (ShrSlice (named 3) κ3 u8) ∷ []) x at) ∷ []) ∵
-        enter ! C Λ code.function (vptr b o ∷ sliceVal (p1 .ptr) (length (p1 .now)) ∷ sliceVal (p2 .ptr) (length (p2 .now)) ∷ sliceVal (p3 .ptr) (length (p3 .now)) ∷ []) _ $
-        alloc1 ! (λ l0. alloc1 ! (λ l1. alloc1 ! (λ l2. alloc1 ! (λ l3. alloc1 ! (λ l4. alloc1 ! (λ l5. alloc1 ! (λ l6. alloc1 ! (λ l7. alloc1 ! (λ l8. alloc1 ! (λ l9. alloc1 ! (λ l10. alloc0 ! $ params1 ! $
-        pass1 ! (init ! 18 refl (tt, tt)) $ pass1 ! (init ! 16 refl (mut-slice-lawful 𝓤 H A W (named 1) κ1 u8 .typed p1 _ is-p1 .0)) $
-        pass1 ! (init ! 14 refl (mut-slice-lawful 𝓤 H A W (named 2) κ2 u8 .typed p2 _ is-p2 .0)) $
-        pass1 ! (init ! 12 refl (shr-slice-lawful 𝓤 H A W (named 3) κ3 u8 .typed p3 _ is-p3 .0)) $ pass0 ! $
-        move ! (23 ∷ []) $ fsplit ! $ fsplit3 ! $ drop ! $ move ! (25 ∷ []) $ split ! $ move ! (4 ∷ []) $ fsplit ! $ move ! (1 ∷ []) $ fsplit ! $
-        move ! (1 ∷ []) $ fsplit ! $
-        use1 W (‵ ((ShrSlice (named 3) κ3 u8) .own p3 (sliceVal (p3 .ptr) (length (p3 .now)) ∷ [])) ⊛ ‵ ((ShrSlice (named 3) κ3 u8) .own p3 (sliceVal (p3 .ptr) (length (p3 .now)) ∷ []))) (shr-slice-copy 𝓤 H A W (named 3) κ3 u8 .twice p3 (sliceVal (p3 .ptr) (length (p3 .now)) ∷ [])) $
-        split ! $
-        move ! (7 ∷ 8 ∷ 5 ∷ []) $
-        opens ! tt D0.the-row {h = h} b o (λ vs0. spelt ! D0.the-row (Is D0.the-row) (shows 𝓤 H A D0.the-row) (LL.vals D0.the-type D0′.the-laws) (LL.tells D0.the-type D0′.the-laws) fullShare h vs0 b o $
-        move ! (1 ∷ []) $
-        peeks ! D0.the-row (Is D0.the-row) (shows 𝓤 H A D0.the-row) h (LL.val D0.the-type D0′.the-laws h ∷ []) (λ was. assigns ! (of-opd ! (load ! (from ! (hop ! (look ! 29 refl) (stop !))) (look-raw ! 1 refl))) (from ! (stop !)) (init ! 19 refl (LL.lawful D0.the-type D0′.the-laws 𝓤 H A W .typed h _ was .0)) $
-        assigns ! (addr ! (from ! (fld ! refl (hop ! (look-in ! 27 (sub ! 0 refl (whole !))) (stop !))))) (from ! (stop !)) (init ! 17 refl (tt, tt)) $
-        assigns ! (agg ! (and-then ! (load ! (from ! (stop !)) (look ! 17 refl)) (and-then ! (load ! (from ! (fld ! refl (stop !))) (look-in ! 27 (sub ! 1 refl (whole !)))) (no-more !)))) (from ! (stop !)) (init ! 15 refl (tt, (tt, (record { fits = is-p1 .0 .1 .0 }, tt)))) $
-        assigns ! (addr ! (from ! (fld ! refl (hop ! (look-in ! 25 (sub ! 0 refl (whole !))) (stop !))))) (from ! (stop !)) (init ! 13 refl (tt, tt)) $
-        assigns ! (agg ! (and-then ! (load ! (from ! (stop !)) (look ! 13 refl)) (and-then ! (load ! (from ! (fld ! refl (stop !))) (look-in ! 25 (sub ! 1 refl (whole !)))) (no-more !)))) (from ! (stop !)) (init ! 11 refl (tt, (tt, (record { fits = is-p2 .0 .1 .0 }, tt)))) $
-        move ! (10 ∷ 9 ∷ 8 ∷ 5 ∷ []) $ join ! $ join ! $ join ! $ use1 W (raw (Callee 𝓤 H A at-mem run .pre to)) (goes-in was) $
-        calls-at ! fm (Callee 𝓤 H A at-mem run) known to (and-then ! (load ! (from ! (stop !)) (look ! 16 refl)) (and-then ! (load ! (from ! (stop !)) (look ! 12 refl)) (and-then ! (load ! (from ! (stop !)) (look ! 8 refl)) (and-then ! (load ! (from ! (stop !)) (look ! 20 refl)) (no-more !))))) (λ v.
-        use1 W (later (some (λ (r : CollectStepped). ((‵ (flft κ1 q1) ⊛ ‵ (flft κ2 q2) ⊛ ‵ (flft κ3 q3) ⊛ ‵ ftrue) ⊛ ‵ (D2.the-row .own r (v ∷ []))) ⊛ raw (ensured 𝓤 H A collect-value.ended (collect-value.clauses 𝓤 H A at-mem run) (κ1, (κ2, (κ3, tt))) (h, (p1, (p2, (p3, tt)))) tt r)))) (id⊢ 𝓤 _) $
-        await ! tt $ pick ! (λ r. split ! $ move ! (1 ∷ []) $
-        use1 W (some (λ (zs : (Unit {0} × (List ℕ × (List ℕ × (Unit {0} × Unit {0}))))). ‵ (lasts collect-value.ended (κ1, (κ2, (κ3, tt))) (h, (p1, (p2, (p3, tt)))) zs) ⊛ raw (fact 𝓤 (record { answer = r .answer; held = r .held; slots = zs .1 .0; join = zs .1 .1 .0 } ≡ collectAfter h (p1 .now) (p2 .now) (p3 .now))))) (id⊢ 𝓤 _) $
-        pick ! (λ zs. split ! $ move ! (1 ∷ []) $
-        heard ! (record { answer = r .answer; held = r .held; slots = zs .1 .0; join = zs .1 .1 .0 } ≡ collectAfter h (p1 .now) (p2 .now) (p3 .now)) (λ eq.
-        fsplit ! $ drop ! $ fsplit ! $ fsplit ! $ move ! (1 ∷ []) $ feqL ! (λ e0. move ! (1 ∷ []) $ fsplit ! $ fsplit ! $ move ! (1 ∷ []) $
-        feqL ! (λ e1. move ! (1 ∷ []) $ drop ! $ move ! (2 ∷ []) $ split ! $ move ! (1 ∷ []) $
-        peeks ! D2.the-row (Is D2.the-row) (shows 𝓤 H A D2.the-row) r (v ∷ []) (λ is.
-        land ! (from ! (stop !)) (init ! 21 refl (LL.lawful D2.the-type D2′.the-laws 𝓤 H A W .typed r _ is .0)) $
-        rewrite ! 21 (λ (u : Val). ‵ (fat fullShare D2′.mir l5 0 u)) (ap only (LL.tells D2.the-type D2′.the-laws r _ is)) refl $
-        assigns ! (of-opd ! (load ! (from ! (fld ! refl (stop !))) (look-in ! 21 (sub ! 1 refl (whole !))))) (from ! (hop ! (look ! 29 refl) (stop !))) (store-raw ! 5 refl (LL.lawful D0.the-type D0′.the-laws 𝓤 H A W .typed (r .held) _ (LL.owed D2.the-type D2′.the-laws r _ is .1 .0) .0)) $
-        assigns ! (of-opd ! (load ! (from ! (fld ! refl (stop !))) (look-in ! 21 (sub ! 0 refl (whole !))))) (from ! (stop !)) (init ! 31 refl (LL.lawful D1.the-type D1′.the-laws 𝓤 H A W .typed (r .answer) _ (LL.owed D2.the-type D2′.the-laws r _ is .0) .0)) $
-        drop ! $ move ! (3 ∷ []) $ drop ! $
-        owned ! D0.the-row (Is D0.the-row) (LL.makes D0.the-type D0′.the-plain 𝓤 H A) (r .held) _ (LL.owed D2.the-type D2′.the-laws r _ is .1 .0) $
-        move ! (4 ∷ 0 ∷ 5 ∷ 6 ∷ 7 ∷ []) $ closes ! tt D0.the-row (r .held) (LL.val D0.the-type D0′.the-laws (r .held) ∷ []) b o $
-        returns ! (look ! 28 refl) $ forget ! 28 refl $ forget ! 26 refl $ forget ! 24 refl $ forget ! 22 refl $ forget ! 20 refl $ forget ! 18 refl $
-        forget ! 16 refl $ forget ! 14 refl $ forget ! 12 refl $ forget ! 10 refl $ forget ! 8 refl $
-        move ! (28 ∷ 29 ∷ []) $ free1 ! $ move ! (26 ∷ 27 ∷ []) $ free1 ! $ move ! (24 ∷ 25 ∷ []) $ free1 ! $ move ! (22 ∷ 23 ∷ []) $ free1 ! $
-        move ! (20 ∷ 21 ∷ []) $ free1 ! $ move ! (18 ∷ 19 ∷ []) $ free1 ! $ move ! (16 ∷ 17 ∷ []) $ free1 ! $ move ! (14 ∷ 15 ∷ []) $ free1 ! $
-        move ! (12 ∷ 13 ∷ []) $ free1 ! $ move ! (10 ∷ 11 ∷ []) $ free1 ! $ move ! (8 ∷ 9 ∷ []) $ free1 ! $ free0 ! $
-        keep ! (0 ∷ 1 ∷ 2 ∷ 3 ∷ 5 ∷ 4 ∷ 6 ∷ []) $
-        by ! (exits r (zs .1 .0) (zs .1 .1 .0) eq (LL.owed D2.the-type D2′.the-laws r _ is .0) e0 e1)))))))))))))))))))))
+        begins ! C Λ code.function (vptr b o ∷ sliceVal (p1 .ptr) (length (p1 .now)) ∷ sliceVal (p2 .ptr) (length (p2 .now)) ∷ sliceVal (p3 .ptr) (length (p3 .now)) ∷ []) _
+        (λ l0 l1 l2 l3 l4 l5 l6 l7 l8 l9 l10. (
+          ((tt, tt), ((mut-slice-lawful 𝓤 H A W (named 1) κ1 u8 .typed p1 _ is-p1 .0), ((mut-slice-lawful 𝓤 H A W (named 2) κ2 u8 .typed p2 _ is-p2 .0), ((shr-slice-lawful 𝓤 H A W (named 3) κ3 u8 .typed p3 _ is-p3 .0), tt)))),
+          move ! (1 ∷ []) $ fsplit ! $ fsplit3 ! $ drop ! $ move ! (3 ∷ []) $ split ! $ move ! (4 ∷ []) $ fsplit ! $ move ! (1 ∷ []) $ fsplit ! $
+              move ! (1 ∷ []) $ fsplit ! $
+              use1 W (‵ ((ShrSlice (named 3) κ3 u8) .own p3 (sliceVal (p3 .ptr) (length (p3 .now)) ∷ [])) ⊛ ‵ ((ShrSlice (named 3) κ3 u8) .own p3 (sliceVal (p3 .ptr) (length (p3 .now)) ∷ []))) (shr-slice-copy 𝓤 H A W (named 3) κ3 u8 .twice p3 (sliceVal (p3 .ptr) (length (p3 .now)) ∷ [])) $
+              split ! $
+              move ! (7 ∷ 8 ∷ 5 ∷ []) $ opens ! tt D0.the-row {h = h} b o (λ vs0. spelt ! D0.the-row (Is D0.the-row) (shows 𝓤 H A D0.the-row) (LL.vals D0.the-type D0′.the-laws) (LL.tells D0.the-type D0′.the-laws) fullShare h vs0 b o $
+              move ! (1 ∷ []) $ peeks ! D0.the-row (Is D0.the-row) (shows 𝓤 H A D0.the-row) h (LL.val D0.the-type D0′.the-laws h ∷ []) (λ was. sets ! (reads-behind ! 12 refl 1 refl) 17 refl (LL.lawful D0.the-type D0′.the-laws 𝓤 H A W .typed h _ was .0) $
+              sets ! (addr ! (from ! (fld ! refl (hop ! (look-in ! 13 (sub ! 0 refl (whole !))) (stop !))))) 18 refl (tt, tt) $
+              sets ! (agg ! (and-then ! (reads ! 18 refl) (and-then ! (load ! (from ! (fld ! refl (stop !))) (look-in ! 13 (sub ! 1 refl (whole !)))) (no-more !)))) 19 refl (tt, (tt, (record { fits = is-p1 .0 .1 .0 }, tt))) $
+              sets ! (addr ! (from ! (fld ! refl (hop ! (look-in ! 14 (sub ! 0 refl (whole !))) (stop !))))) 20 refl (tt, tt) $
+              sets ! (agg ! (and-then ! (reads ! 20 refl) (and-then ! (load ! (from ! (fld ! refl (stop !))) (look-in ! 14 (sub ! 1 refl (whole !)))) (no-more !)))) 21 refl (tt, (tt, (record { fits = is-p2 .0 .1 .0 }, tt))) $
+              move ! (10 ∷ 9 ∷ 8 ∷ 5 ∷ []) $ join ! $ join ! $ join ! $ use1 W (raw (Callee 𝓤 H A at-mem run .pre to)) (goes-in was) $
+              calls-at ! fm (Callee 𝓤 H A at-mem run) known to (and-then ! (reads ! 14 refl) (and-then ! (reads ! 16 refl) (and-then ! (reads ! 18 refl) (and-then ! (reads ! 12 refl) (no-more !))))) (λ v.
+              use1 W (later (some (λ (r : CollectStepped). ((‵ (flft κ1 q1) ⊛ ‵ (flft κ2 q2) ⊛ ‵ (flft κ3 q3) ⊛ ‵ ftrue) ⊛ ‵ (D2.the-row .own r (v ∷ []))) ⊛ raw (ensured 𝓤 H A collect-value.ended (collect-value.clauses 𝓤 H A at-mem run) (κ1, (κ2, (κ3, tt))) (h, (p1, (p2, (p3, tt)))) tt r)))) (id⊢ 𝓤 _) $
+              await ! tt $ pick ! (λ r. split ! $ move ! (1 ∷ []) $ use1 W (some (λ (zs : (Unit {0} × (List ℕ × (List ℕ × (Unit {0} × Unit {0}))))). ‵ (lasts collect-value.ended (κ1, (κ2, (κ3, tt))) (h, (p1, (p2, (p3, tt)))) zs) ⊛ raw (fact 𝓤 (record { answer = r .answer; held = r .held; slots = zs .1 .0; join = zs .1 .1 .0 } ≡ collectAfter h (p1 .now) (p2 .now) (p3 .now))))) (id⊢ 𝓤 _) $
+              pick ! (λ zs. split ! $ move ! (1 ∷ []) $ heard ! (record { answer = r .answer; held = r .held; slots = zs .1 .0; join = zs .1 .1 .0 } ≡ collectAfter h (p1 .now) (p2 .now) (p3 .now)) (λ eq.
+              fsplit ! $ drop ! $ fsplit ! $ fsplit ! $ move ! (1 ∷ []) $ feqL ! (λ e0. move ! (1 ∷ []) $ fsplit ! $ fsplit ! $ move ! (1 ∷ []) $ feqL ! (λ e1. move ! (1 ∷ []) $ drop ! $ move ! (2 ∷ []) $ split ! $ move ! (1 ∷ []) $ peeks ! D2.the-row (Is D2.the-row) (shows 𝓤 H A D2.the-row) r (v ∷ []) (λ is.
+              land ! (from ! (stop !)) (init ! 16 refl (LL.lawful D2.the-type D2′.the-laws 𝓤 H A W .typed r _ is .0)) $
+              rewrite ! 16 (λ (u : Val). ‵ (fat fullShare D2′.mir l5 0 u)) (ap only (LL.tells D2.the-type D2′.the-laws r _ is)) refl $
+              assigns ! (reads-field ! 16 1 refl refl refl) (from ! (hop ! (look ! 12 refl) (stop !))) (store-raw ! 5 refl (LL.lawful D0.the-type D0′.the-laws 𝓤 H A W .typed (r .held) _ (LL.owed D2.the-type D2′.the-laws r _ is .1 .0) .0)) $
+              sets ! (reads-field ! 16 0 refl refl refl) 11 refl (LL.lawful D1.the-type D1′.the-laws 𝓤 H A W .typed (r .answer) _ (LL.owed D2.the-type D2′.the-laws r _ is .0) .0) $
+              drop ! $ move ! (3 ∷ []) $ drop ! $
+              owned ! D0.the-row (Is D0.the-row) (LL.makes D0.the-type D0′.the-plain 𝓤 H A) (r .held) _ (LL.owed D2.the-type D2′.the-laws r _ is .1 .0) $
+              move ! (4 ∷ 0 ∷ 5 ∷ 6 ∷ 7 ∷ []) $ closes ! tt D0.the-row (r .held) (LL.val D0.the-type D0′.the-laws (r .held) ∷ []) b o $
+              returns ! (look ! 8 refl) $ frees ! 8 (_ ∷ _ ∷ _ ∷ _ ∷ _ ∷ _ ∷ _ ∷ _ ∷ _ ∷ _ ∷ _ ∷ []) refl $
+              keep ! (0 ∷ 1 ∷ 2 ∷ 3 ∷ 5 ∷ 4 ∷ 6 ∷ []) $
+              by ! (exits r (zs .1 .0) (zs .1 .1 .0) eq (LL.owed D2.the-type D2′.the-laws r _ is .0) e0 e1)))))))))),
+        ))
 
 module _ {M : Type 1} (𝓤 : URA M) (H : Heap 𝓤) (A : Atoms 𝓤) (W : Given 𝓤 H A) (at-mem : Memory → SProp 𝓤) (run : Routine → Fun 𝓤) where
   walks : (C : Calls 𝓤 H) (Λ : Loops 𝓤 H) → FmC 𝓤 H (W .laws) C → Triple 𝓤 (C #dsg_pieces·collect-value) (Callee 𝓤 H A at-mem run)

@@ -4,13 +4,15 @@
 use Rattle.dsg.proofs.Walk.{_≡_, refl, ap, ℕ, [], _∷_, List, URA, fullShare, named, Val, vptr, SProp, ent, emp, via, fst∗, id⊢, GName, Lft, Share, ftrue}
 use Rattle.dsg.proofs.Walk.{flft, fobs, fbor, fat, Memory, Routine, Heap, Calls, Loops, WpFn, Tables, Atoms, Fun, fact, givenOf, tables, tablesOf, Given}
 use Rattle.dsg.proofs.Walk.{Item, ‵, raw, _⊛_, ⋆, some, later, _$_, _∵_, !, qed, by, move, keep, drop, use1, split, join, pick, rewrite, fsplit, fsplit3}
-use Rattle.dsg.proofs.Walk.{fjoin, fjoin3, feqI, feqL, suffices, frame, await, done, look, look-raw, store-raw, init, forget, stop, hop, fld, from, load}
-use Rattle.dsg.proofs.Walk.{addr, of-opd, and-then, no-more, assigns, land, returns, enter, alloc1, alloc0, params1, pass1, pass0, free1, free0, agg}
+use Rattle.dsg.proofs.Walk.{fjoin, fjoin3, feqI, feqL, suffices, frame, await, done, look, store-raw, init, stop, hop, fld, from, load}
+use Rattle.dsg.proofs.Walk.{addr, and-then, no-more, assigns, land, returns, agg}
 use Rattle.dsg.proofs.Walk.{whole, sub, look-in, Body, FmC, fmOf, WpFn-mono, owns, Is, shows, mem, u8, ShrSlice, MutSlice, finally, mut-slice-tells}
 use Rattle.dsg.proofs.Walk.{mut-slice-lawful, sliceVal, slice-vals, shr-slice-tells, shr-slice-lawful, shr-slice-copy, length, RefT, MutRef, ptr-vals}
 use Rattle.dsg.proofs.Walk.{mut-tells, plain, only, opens, closes, owned, peeks, heard, nothing, spelt, onEntry, Meets, tripleOf, Contract, Triple}
 use Rattle.dsg.proofs.Walk.{calls-at, ensured, lasts, entered, cited, says, Stays, stay-ref, stay-none-slice, gave-slice, walkOf, AllGo, goes-none-slice}
 use Rattle.dsg.proofs.Walk.{goes-gave-slice, goes-ref, Walks, ends-at, walked, walk-meets, yes}
+use Rattle.dsg.proofs.Locals.{begins, frees}
+use Rattle.dsg.proofs.Reading.{reads, reads-behind, reads-field, sets}
 use denote.Struct.Laws as LL
 use Rattle.dsg_pieces.specs.Bodies.{receiveAfter}
 use Rattle.collection.specs.declared.Collection.{Collection}
@@ -85,57 +87,43 @@ module _ {M : Type 1} (𝓤 : URA M) (H : Heap 𝓤) (A : Atoms 𝓤) (W : Given
     walk : ent 𝓤 (onEntry 𝓤 H A dsg-receive.signature (κ0, (κ1, (κ2, (κ3, (κ4, tt))))) (q0, (q1, (q2, (q3, (q4, tt))))) x at) (WpFn 𝓤 H C Λ code.function (vptr b0 o0 ∷ vptr b1 o1 ∷ sliceVal (p1 .ptr) (length (p1 .now)) ∷ sliceVal (p2 .ptr) (length (p2 .now)) ∷ sliceVal (p3 .ptr) (length (p3 .now)) ∷ []) Post)
     walk =
         qed W ((‵ (flft κ0 q0) ⊛ ‵ (flft κ1 q1) ⊛ ‵ (flft κ2 q2) ⊛ ‵ (flft κ3 q3) ⊛ ‵ (flft κ4 q4) ⊛ ‵ ftrue) ∷ ‵ (owns (MutRef (named 0) κ0 D0.the-row ∷ MutRef (named 1) κ1 D1.the-row ∷ (MutSlice (named 2) κ2 u8) ∷ (MutSlice (named 3) κ3 u8) ∷ (ShrSlice (named 4) κ4 u8) ∷ []) x at) ∷ []) ∵
-        enter ! C Λ code.function (vptr b0 o0 ∷ vptr b1 o1 ∷ sliceVal (p1 .ptr) (length (p1 .now)) ∷ sliceVal (p2 .ptr) (length (p2 .now)) ∷ sliceVal (p3 .ptr) (length (p3 .now)) ∷ []) _ $
-        alloc1 ! (λ l0. alloc1 ! (λ l1. alloc1 ! (λ l2. alloc1 ! (λ l3. alloc1 ! (λ l4. alloc1 ! (λ l5. alloc1 ! (λ l6. alloc1 ! (λ l7. alloc1 ! (λ l8. alloc1 ! (λ l9. alloc1 ! (λ l10. alloc1 ! (λ l11. alloc1 ! (λ l12. alloc0 ! $ params1 ! $
-        pass1 ! (init ! 22 refl (tt, tt)) $ pass1 ! (init ! 20 refl (tt, tt)) $
-        pass1 ! (init ! 18 refl (mut-slice-lawful 𝓤 H A W (named 2) κ2 u8 .typed p1 _ is-p1 .0)) $
-        pass1 ! (init ! 16 refl (mut-slice-lawful 𝓤 H A W (named 3) κ3 u8 .typed p2 _ is-p2 .0)) $
-        pass1 ! (init ! 14 refl (shr-slice-lawful 𝓤 H A W (named 4) κ4 u8 .typed p3 _ is-p3 .0)) $ pass0 ! $
-        move ! (27 ∷ []) $ fsplit ! $ fsplit3 ! $ drop ! $ move ! (2 ∷ []) $ fsplit ! $ fsplit3 ! $ drop ! $ move ! (31 ∷ []) $ split ! $
-        move ! (1 ∷ []) $ split ! $ move ! (5 ∷ []) $ fsplit ! $ move ! (1 ∷ []) $ fsplit ! $ move ! (1 ∷ []) $ fsplit ! $
-        use1 W (‵ ((ShrSlice (named 4) κ4 u8) .own p3 (sliceVal (p3 .ptr) (length (p3 .now)) ∷ [])) ⊛ ‵ ((ShrSlice (named 4) κ4 u8) .own p3 (sliceVal (p3 .ptr) (length (p3 .now)) ∷ []))) (shr-slice-copy 𝓤 H A W (named 4) κ4 u8 .twice p3 (sliceVal (p3 .ptr) (length (p3 .now)) ∷ [])) $
-        split ! $
-        move ! (10 ∷ 11 ∷ 7 ∷ []) $
-        opens ! tt D0.the-row {h = h0} b0 o0 (λ vs0. spelt ! D0.the-row (Is D0.the-row) (shows 𝓤 H A D0.the-row) (LL.vals D0.the-type D0′.the-laws) (LL.tells D0.the-type D0′.the-laws) fullShare h0 vs0 b0 o0 $
-        move ! (1 ∷ []) $
-        peeks ! D0.the-row (Is D0.the-row) (shows 𝓤 H A D0.the-row) h0 (LL.val D0.the-type D0′.the-laws h0 ∷ []) (λ was0. assigns ! (of-opd ! (load ! (from ! (hop ! (look ! 36 refl) (stop !))) (look-raw ! 1 refl))) (from ! (stop !)) (init ! 24 refl (LL.lawful D0.the-type D0′.the-laws 𝓤 H A W .typed h0 _ was0 .0)) $
-        move ! (12 ∷ 13 ∷ 10 ∷ []) $
-        opens ! tt D1.the-row {h = h1} b1 o1 (λ vs1. spelt ! D1.the-row (Is D1.the-row) (shows 𝓤 H A D1.the-row) (LL.vals D1.the-type D1′.the-laws) (LL.tells D1.the-type D1′.the-laws) fullShare h1 vs1 b1 o1 $
-        move ! (1 ∷ []) $
-        peeks ! D1.the-row (Is D1.the-row) (shows 𝓤 H A D1.the-row) h1 (LL.val D1.the-type D1′.the-laws h1 ∷ []) (λ was1. assigns ! (of-opd ! (load ! (from ! (hop ! (look ! 36 refl) (stop !))) (look-raw ! 1 refl))) (from ! (stop !)) (init ! 24 refl (LL.lawful D1.the-type D1′.the-laws 𝓤 H A W .typed h1 _ was1 .0)) $
-        assigns ! (addr ! (from ! (fld ! refl (hop ! (look-in ! 34 (sub ! 0 refl (whole !))) (stop !))))) (from ! (stop !)) (init ! 22 refl (tt, tt)) $
-        assigns ! (agg ! (and-then ! (load ! (from ! (stop !)) (look ! 22 refl)) (and-then ! (load ! (from ! (fld ! refl (stop !))) (look-in ! 34 (sub ! 1 refl (whole !)))) (no-more !)))) (from ! (stop !)) (init ! 20 refl (tt, (tt, (record { fits = is-p1 .0 .1 .0 }, tt)))) $
-        assigns ! (addr ! (from ! (fld ! refl (hop ! (look-in ! 32 (sub ! 0 refl (whole !))) (stop !))))) (from ! (stop !)) (init ! 18 refl (tt, tt)) $
-        assigns ! (agg ! (and-then ! (load ! (from ! (stop !)) (look ! 18 refl)) (and-then ! (load ! (from ! (fld ! refl (stop !))) (look-in ! 32 (sub ! 1 refl (whole !)))) (no-more !)))) (from ! (stop !)) (init ! 16 refl (tt, (tt, (record { fits = is-p2 .0 .1 .0 }, tt)))) $
-        move ! (15 ∷ 14 ∷ 13 ∷ 10 ∷ []) $ join ! $ join ! $ join ! $ use1 W (raw (Callee 𝓤 H A at-mem run .pre to)) (goes-in was0 was1) $
-        calls-at ! fm (Callee 𝓤 H A at-mem run) known to (and-then ! (load ! (from ! (stop !)) (look ! 23 refl)) (and-then ! (load ! (from ! (stop !)) (look ! 21 refl)) (and-then ! (load ! (from ! (stop !)) (look ! 17 refl)) (and-then ! (load ! (from ! (stop !)) (look ! 13 refl)) (and-then ! (load ! (from ! (stop !)) (look ! 27 refl)) (no-more !)))))) (λ v.
-        use1 W (later (some (λ (r : ReceiveStepped). ((‵ (flft κ2 q2) ⊛ ‵ (flft κ3 q3) ⊛ ‵ (flft κ4 q4) ⊛ ‵ ftrue) ⊛ ‵ (D3.the-row .own r (v ∷ []))) ⊛ raw (ensured 𝓤 H A receive-value.ended (receive-value.clauses 𝓤 H A at-mem run) (κ2, (κ3, (κ4, tt))) (h0, (h1, (p1, (p2, (p3, tt))))) tt r)))) (id⊢ 𝓤 _) $
-        await ! tt $ pick ! (λ r. split ! $ move ! (1 ∷ []) $
-        use1 W (some (λ (zs : (Unit {0} × (Unit {0} × (List ℕ × (List ℕ × (Unit {0} × Unit {0})))))). ‵ (lasts receive-value.ended (κ2, (κ3, (κ4, tt))) (h0, (h1, (p1, (p2, (p3, tt))))) zs) ⊛ raw (fact 𝓤 (record { answer = r .answer; held = r .held; table = r .table; slots = zs .1 .1 .0; join = zs .1 .1 .1 .0 } ≡ receiveAfter h0 h1 (p1 .now) (p2 .now) (p3 .now))))) (id⊢ 𝓤 _) $
-        pick ! (λ zs. split ! $ move ! (1 ∷ []) $
-        heard ! (record { answer = r .answer; held = r .held; table = r .table; slots = zs .1 .1 .0; join = zs .1 .1 .1 .0 } ≡ receiveAfter h0 h1 (p1 .now) (p2 .now) (p3 .now)) (λ eq.
-        fsplit ! $ drop ! $ fsplit ! $ drop ! $ fsplit ! $ fsplit ! $ move ! (1 ∷ []) $ feqL ! (λ e0. move ! (1 ∷ []) $ fsplit ! $ fsplit ! $
-        move ! (1 ∷ []) $ feqL ! (λ e1. move ! (1 ∷ []) $ drop ! $ move ! (2 ∷ []) $ split ! $ move ! (1 ∷ []) $
-        peeks ! D3.the-row (Is D3.the-row) (shows 𝓤 H A D3.the-row) r (v ∷ []) (λ is.
-        land ! (from ! (stop !)) (init ! 28 refl (LL.lawful D3.the-type D3′.the-laws 𝓤 H A W .typed r _ is .0)) $
-        rewrite ! 28 (λ (u : Val). ‵ (fat fullShare D3′.mir l6 0 u)) (ap only (LL.tells D3.the-type D3′.the-laws r _ is)) refl $
-        assigns ! (of-opd ! (load ! (from ! (fld ! refl (stop !))) (look-in ! 28 (sub ! 1 refl (whole !))))) (from ! (hop ! (look ! 38 refl) (stop !))) (store-raw ! 10 refl (LL.lawful D0.the-type D0′.the-laws 𝓤 H A W .typed (r .held) _ (LL.owed D3.the-type D3′.the-laws r _ is .1 .0) .0)) $
-        assigns ! (of-opd ! (load ! (from ! (fld ! refl (stop !))) (look-in ! 28 (sub ! 2 refl (whole !))))) (from ! (hop ! (look ! 36 refl) (stop !))) (store-raw ! 5 refl (LL.lawful D1.the-type D1′.the-laws 𝓤 H A W .typed (r .table) _ (LL.owed D3.the-type D3′.the-laws r _ is .1 .1 .0) .0)) $
-        assigns ! (of-opd ! (load ! (from ! (fld ! refl (stop !))) (look-in ! 28 (sub ! 0 refl (whole !))))) (from ! (stop !)) (init ! 40 refl (LL.lawful D2.the-type D2′.the-laws 𝓤 H A W .typed (r .answer) _ (LL.owed D3.the-type D3′.the-laws r _ is .0) .0)) $
-        drop ! $ move ! (8 ∷ []) $ drop ! $
-        owned ! D0.the-row (Is D0.the-row) (LL.makes D0.the-type D0′.the-plain 𝓤 H A) (r .held) _ (LL.owed D3.the-type D3′.the-laws r _ is .1 .0) $
-        move ! (9 ∷ 0 ∷ 10 ∷ 11 ∷ 12 ∷ []) $ closes ! tt D0.the-row (r .held) (LL.val D0.the-type D0′.the-laws (r .held) ∷ []) b0 o0 $
-        move ! (6 ∷ []) $ drop ! $
-        owned ! D1.the-row (Is D1.the-row) (LL.makes D1.the-type D1′.the-plain 𝓤 H A) (r .table) _ (LL.owed D3.the-type D3′.the-laws r _ is .1 .1 .0) $
-        move ! (7 ∷ 0 ∷ 8 ∷ 9 ∷ 10 ∷ []) $ closes ! tt D1.the-row (r .table) (LL.val D1.the-type D1′.the-laws (r .table) ∷ []) b1 o1 $
-        returns ! (look ! 35 refl) $ forget ! 35 refl $ forget ! 33 refl $ forget ! 31 refl $ forget ! 29 refl $ forget ! 27 refl $ forget ! 25 refl $
-        forget ! 23 refl $ forget ! 21 refl $ forget ! 19 refl $ forget ! 17 refl $ forget ! 15 refl $ forget ! 13 refl $ forget ! 11 refl $
-        move ! (35 ∷ 36 ∷ []) $ free1 ! $ move ! (33 ∷ 34 ∷ []) $ free1 ! $ move ! (31 ∷ 32 ∷ []) $ free1 ! $ move ! (29 ∷ 30 ∷ []) $ free1 ! $
-        move ! (27 ∷ 28 ∷ []) $ free1 ! $ move ! (25 ∷ 26 ∷ []) $ free1 ! $ move ! (23 ∷ 24 ∷ []) $ free1 ! $ move ! (21 ∷ 22 ∷ []) $ free1 ! $
-        move ! (19 ∷ 20 ∷ []) $ free1 ! $ move ! (17 ∷ 18 ∷ []) $ free1 ! $ move ! (15 ∷ 16 ∷ []) $ free1 ! $ move ! (13 ∷ 14 ∷ []) $ free1 ! $
-        move ! (11 ∷ 12 ∷ []) $ free1 ! $ free0 ! $
-        keep ! (3 ∷ 4 ∷ 0 ∷ 1 ∷ 5 ∷ 2 ∷ 6 ∷ 8 ∷ 7 ∷ 9 ∷ []) $
-        by ! (exits r (zs .1 .1 .0) (zs .1 .1 .1 .0) eq (LL.owed D3.the-type D3′.the-laws r _ is .0) e0 e1)))))))))))))))))))))))))
+        begins ! C Λ code.function (vptr b0 o0 ∷ vptr b1 o1 ∷ sliceVal (p1 .ptr) (length (p1 .now)) ∷ sliceVal (p2 .ptr) (length (p2 .now)) ∷ sliceVal (p3 .ptr) (length (p3 .now)) ∷ []) _
+        (λ l0 l1 l2 l3 l4 l5 l6 l7 l8 l9 l10 l11 l12. (
+          ((tt, tt), ((tt, tt), ((mut-slice-lawful 𝓤 H A W (named 2) κ2 u8 .typed p1 _ is-p1 .0), ((mut-slice-lawful 𝓤 H A W (named 3) κ3 u8 .typed p2 _ is-p2 .0), ((shr-slice-lawful 𝓤 H A W (named 4) κ4 u8 .typed p3 _ is-p3 .0), tt))))),
+          move ! (1 ∷ []) $ fsplit ! $ fsplit3 ! $ drop ! $ move ! (2 ∷ []) $ fsplit ! $ fsplit3 ! $ drop ! $ move ! (5 ∷ []) $ split ! $
+              move ! (1 ∷ []) $ split ! $ move ! (5 ∷ []) $ fsplit ! $ move ! (1 ∷ []) $ fsplit ! $ move ! (1 ∷ []) $ fsplit ! $
+              use1 W (‵ ((ShrSlice (named 4) κ4 u8) .own p3 (sliceVal (p3 .ptr) (length (p3 .now)) ∷ [])) ⊛ ‵ ((ShrSlice (named 4) κ4 u8) .own p3 (sliceVal (p3 .ptr) (length (p3 .now)) ∷ []))) (shr-slice-copy 𝓤 H A W (named 4) κ4 u8 .twice p3 (sliceVal (p3 .ptr) (length (p3 .now)) ∷ [])) $
+              split ! $
+              move ! (10 ∷ 11 ∷ 7 ∷ []) $ opens ! tt D0.the-row {h = h0} b0 o0 (λ vs0. spelt ! D0.the-row (Is D0.the-row) (shows 𝓤 H A D0.the-row) (LL.vals D0.the-type D0′.the-laws) (LL.tells D0.the-type D0′.the-laws) fullShare h0 vs0 b0 o0 $
+              move ! (1 ∷ []) $ peeks ! D0.the-row (Is D0.the-row) (shows 𝓤 H A D0.the-row) h0 (LL.val D0.the-type D0′.the-laws h0 ∷ []) (λ was0. sets ! (reads-behind ! 15 refl 1 refl) 21 refl (LL.lawful D0.the-type D0′.the-laws 𝓤 H A W .typed h0 _ was0 .0) $
+              move ! (12 ∷ 13 ∷ 10 ∷ []) $ opens ! tt D1.the-row {h = h1} b1 o1 (λ vs1. spelt ! D1.the-row (Is D1.the-row) (shows 𝓤 H A D1.the-row) (LL.vals D1.the-type D1′.the-laws) (LL.tells D1.the-type D1′.the-laws) fullShare h1 vs1 b1 o1 $
+              move ! (1 ∷ []) $ peeks ! D1.the-row (Is D1.the-row) (shows 𝓤 H A D1.the-row) h1 (LL.val D1.the-type D1′.the-laws h1 ∷ []) (λ was1. sets ! (reads-behind ! 18 refl 1 refl) 24 refl (LL.lawful D1.the-type D1′.the-laws 𝓤 H A W .typed h1 _ was1 .0) $
+              sets ! (addr ! (from ! (fld ! refl (hop ! (look-in ! 19 (sub ! 0 refl (whole !))) (stop !))))) 25 refl (tt, tt) $
+              sets ! (agg ! (and-then ! (reads ! 25 refl) (and-then ! (load ! (from ! (fld ! refl (stop !))) (look-in ! 19 (sub ! 1 refl (whole !)))) (no-more !)))) 26 refl (tt, (tt, (record { fits = is-p1 .0 .1 .0 }, tt))) $
+              sets ! (addr ! (from ! (fld ! refl (hop ! (look-in ! 20 (sub ! 0 refl (whole !))) (stop !))))) 27 refl (tt, tt) $
+              sets ! (agg ! (and-then ! (reads ! 27 refl) (and-then ! (load ! (from ! (fld ! refl (stop !))) (look-in ! 20 (sub ! 1 refl (whole !)))) (no-more !)))) 28 refl (tt, (tt, (record { fits = is-p2 .0 .1 .0 }, tt))) $
+              move ! (15 ∷ 14 ∷ 13 ∷ 10 ∷ []) $ join ! $ join ! $ join ! $ use1 W (raw (Callee 𝓤 H A at-mem run .pre to)) (goes-in was0 was1) $
+              calls-at ! fm (Callee 𝓤 H A at-mem run) known to (and-then ! (reads ! 20 refl) (and-then ! (reads ! 21 refl) (and-then ! (reads ! 23 refl) (and-then ! (reads ! 25 refl) (and-then ! (reads ! 18 refl) (no-more !)))))) (λ v.
+              use1 W (later (some (λ (r : ReceiveStepped). ((‵ (flft κ2 q2) ⊛ ‵ (flft κ3 q3) ⊛ ‵ (flft κ4 q4) ⊛ ‵ ftrue) ⊛ ‵ (D3.the-row .own r (v ∷ []))) ⊛ raw (ensured 𝓤 H A receive-value.ended (receive-value.clauses 𝓤 H A at-mem run) (κ2, (κ3, (κ4, tt))) (h0, (h1, (p1, (p2, (p3, tt))))) tt r)))) (id⊢ 𝓤 _) $
+              await ! tt $ pick ! (λ r. split ! $ move ! (1 ∷ []) $ use1 W (some (λ (zs : (Unit {0} × (Unit {0} × (List ℕ × (List ℕ × (Unit {0} × Unit {0})))))). ‵ (lasts receive-value.ended (κ2, (κ3, (κ4, tt))) (h0, (h1, (p1, (p2, (p3, tt))))) zs) ⊛ raw (fact 𝓤 (record { answer = r .answer; held = r .held; table = r .table; slots = zs .1 .1 .0; join = zs .1 .1 .1 .0 } ≡ receiveAfter h0 h1 (p1 .now) (p2 .now) (p3 .now))))) (id⊢ 𝓤 _) $
+              pick ! (λ zs. split ! $ move ! (1 ∷ []) $ heard ! (record { answer = r .answer; held = r .held; table = r .table; slots = zs .1 .1 .0; join = zs .1 .1 .1 .0 } ≡ receiveAfter h0 h1 (p1 .now) (p2 .now) (p3 .now)) (λ eq.
+              fsplit ! $ drop ! $ fsplit ! $ drop ! $ fsplit ! $ fsplit ! $ move ! (1 ∷ []) $ feqL ! (λ e0. move ! (1 ∷ []) $ fsplit ! $ fsplit ! $
+              move ! (1 ∷ []) $ feqL ! (λ e1. move ! (1 ∷ []) $ drop ! $ move ! (2 ∷ []) $ split ! $ move ! (1 ∷ []) $ peeks ! D3.the-row (Is D3.the-row) (shows 𝓤 H A D3.the-row) r (v ∷ []) (λ is.
+              land ! (from ! (stop !)) (init ! 22 refl (LL.lawful D3.the-type D3′.the-laws 𝓤 H A W .typed r _ is .0)) $
+              rewrite ! 22 (λ (u : Val). ‵ (fat fullShare D3′.mir l6 0 u)) (ap only (LL.tells D3.the-type D3′.the-laws r _ is)) refl $
+              assigns ! (reads-field ! 22 1 refl refl refl) (from ! (hop ! (look ! 17 refl) (stop !))) (store-raw ! 10 refl (LL.lawful D0.the-type D0′.the-laws 𝓤 H A W .typed (r .held) _ (LL.owed D3.the-type D3′.the-laws r _ is .1 .0) .0)) $
+              assigns ! (reads-field ! 22 2 refl refl refl) (from ! (hop ! (look ! 18 refl) (stop !))) (store-raw ! 5 refl (LL.lawful D1.the-type D1′.the-laws 𝓤 H A W .typed (r .table) _ (LL.owed D3.the-type D3′.the-laws r _ is .1 .1 .0) .0)) $
+              sets ! (reads-field ! 22 0 refl refl refl) 16 refl (LL.lawful D2.the-type D2′.the-laws 𝓤 H A W .typed (r .answer) _ (LL.owed D3.the-type D3′.the-laws r _ is .0) .0) $
+              drop ! $ move ! (8 ∷ []) $ drop ! $
+              owned ! D0.the-row (Is D0.the-row) (LL.makes D0.the-type D0′.the-plain 𝓤 H A) (r .held) _ (LL.owed D3.the-type D3′.the-laws r _ is .1 .0) $
+              move ! (9 ∷ 0 ∷ 10 ∷ 11 ∷ 12 ∷ []) $ closes ! tt D0.the-row (r .held) (LL.val D0.the-type D0′.the-laws (r .held) ∷ []) b0 o0 $
+              move ! (6 ∷ []) $ drop ! $
+              owned ! D1.the-row (Is D1.the-row) (LL.makes D1.the-type D1′.the-plain 𝓤 H A) (r .table) _ (LL.owed D3.the-type D3′.the-laws r _ is .1 .1 .0) $
+              move ! (7 ∷ 0 ∷ 8 ∷ 9 ∷ 10 ∷ []) $ closes ! tt D1.the-row (r .table) (LL.val D1.the-type D1′.the-laws (r .table) ∷ []) b1 o1 $
+              returns ! (look ! 11 refl) $ frees ! 11 (_ ∷ _ ∷ _ ∷ _ ∷ _ ∷ _ ∷ _ ∷ _ ∷ _ ∷ _ ∷ _ ∷ _ ∷ _ ∷ []) refl $
+              keep ! (3 ∷ 4 ∷ 0 ∷ 1 ∷ 5 ∷ 2 ∷ 6 ∷ 8 ∷ 7 ∷ 9 ∷ []) $
+              by ! (exits r (zs .1 .1 .0) (zs .1 .1 .1 .0) eq (LL.owed D3.the-type D3′.the-laws r _ is .0) e0 e1)))))))))))),
+        ))
 
 module _ {M : Type 1} (𝓤 : URA M) (H : Heap 𝓤) (A : Atoms 𝓤) (W : Given 𝓤 H A) (at-mem : Memory → SProp 𝓤) (run : Routine → Fun 𝓤) where
   walks : (C : Calls 𝓤 H) (Λ : Loops 𝓤 H) → FmC 𝓤 H (W .laws) C → Triple 𝓤 (C #dsg_pieces·receive-value) (Callee 𝓤 H A at-mem run)

@@ -4,13 +4,15 @@
 use Rattle.dsg.proofs.Walk.{_≡_, refl, ℕ, [], _∷_, List, URA, named, w8, Val, vint, vptr, SProp, ent, emp, via, fst∗, id⊢, GName, Lft, Share, ftrue, flft}
 use Rattle.dsg.proofs.Walk.{fres, fshr-bor, Memory, Routine, Heap, Calls, Loops, WpFn, Tables, Atoms, Fun, fact, givenOf, tables, tablesOf, Given, Item}
 use Rattle.dsg.proofs.Walk.{‵, raw, _⊛_, ⋆, some, later, _$_, _∵_, !, qed, by, move, keep, drop, use1, split, join, pick, fsplit, fsplit3, fjoin, fjoin3}
-use Rattle.dsg.proofs.Walk.{feqI, feqL, suffices, frame, await, done, look, look-raw, init, forget, stop, hop, fld, from, load, addr, of-opd, and-then}
-use Rattle.dsg.proofs.Walk.{no-more, assigns, land, returns, enter, alloc1, alloc0, params1, pass1, pass0, free1, free0, agg, whole, sub, look-in, FmC}
+use Rattle.dsg.proofs.Walk.{feqI, feqL, suffices, frame, await, done, look, init, stop, hop, fld, from, load, addr, and-then}
+use Rattle.dsg.proofs.Walk.{no-more, land, returns, agg, whole, sub, look-in, FmC}
 use Rattle.dsg.proofs.Walk.{fmOf, WpFn-mono, owns, Is, shows, mem, partAt, uint-vals, uint-tells, uint-makes, uint-lawful, u8, MutSlice, finally}
 use Rattle.dsg.proofs.Walk.{mut-slice-tells, mut-slice-lawful, sliceVal, slice-vals, length, RefT, ShrRef, ptr-vals, shr-tells, plain, looks, shuts}
 use Rattle.dsg.proofs.Walk.{owned, peeks, heard, nothing, spelt, onEntry, Meets, tripleOf, Contract, Triple, calls-at, ensured, lasts, entered, cited}
 use Rattle.dsg.proofs.Walk.{says, Stays, stay-none, stay-none-ref, gave-slice, walkOf, AllGo, goes-none, goes-none-ref, goes-gave-slice, Walks, ends-at}
 use Rattle.dsg.proofs.Walk.{walked, walk-meets, yes}
+use Rattle.dsg.proofs.Locals.{begins, frees}
+use Rattle.dsg.proofs.Reading.{reads, reads-behind, sets}
 use denote.Struct.Laws as LL
 use Rattle.dsg_tables.specs.Tables.{listAfter}
 use Rattle.table.specs.declared.Table.{Table}
@@ -76,32 +78,25 @@ module _ {M : Type 1} (𝓤 : URA M) (H : Heap 𝓤) (A : Atoms 𝓤) (W : Given
     walk : ent 𝓤 (onEntry 𝓤 H A dsg-list-table.signature (κ0, (κ1, tt)) (q0, (q1, tt)) x at) (WpFn 𝓤 H C Λ code.function (vptr b o ∷ vint w8 p1 ∷ sliceVal (p2 .ptr) (length (p2 .now)) ∷ []) Post)
     walk =
         qed W ((‵ (flft κ0 q0) ⊛ ‵ (flft κ1 q1) ⊛ ‵ ftrue) ∷ ‵ (owns (ShrRef (named 0) κ0 D0.the-row ∷ u8 ∷ (MutSlice (named 1) κ1 u8) ∷ []) x at) ∷ []) ∵
-        enter ! C Λ code.function (vptr b o ∷ vint w8 p1 ∷ sliceVal (p2 .ptr) (length (p2 .now)) ∷ []) _ $
-        alloc1 ! (λ l0. alloc1 ! (λ l1. alloc1 ! (λ l2. alloc1 ! (λ l3. alloc1 ! (λ l4. alloc1 ! (λ l5. alloc1 ! (λ l6. alloc0 ! $ params1 ! $
-        pass1 ! (init ! 10 refl (tt, tt)) $ pass1 ! (init ! 8 refl (uint-lawful 𝓤 H A W w8 .typed p1 _ is-p1 .0)) $
-        pass1 ! (init ! 6 refl (mut-slice-lawful 𝓤 H A W (named 1) κ1 u8 .typed p2 _ is-p2 .0)) $ pass0 ! $
-        move ! (15 ∷ []) $ fsplit ! $ fsplit3 ! $ drop ! $ move ! (17 ∷ []) $ split ! $ move ! (4 ∷ []) $ fsplit ! $ drop ! $ fsplit ! $
-        move ! (5 ∷ 2 ∷ []) $
-        looks ! tt D0.the-row (Is D0.the-row) (shows 𝓤 H A D0.the-row) (LL.vals D0.the-type D0′.the-laws) (LL.tells D0.the-type D0′.the-laws) (LL.copy D0.the-type D0′.the-copy 𝓤 H A W) h b o (λ s0 vs0. spelt ! D0.the-row (Is D0.the-row) (shows 𝓤 H A D0.the-row) (LL.vals D0.the-type D0′.the-laws) (LL.tells D0.the-type D0′.the-laws) s0 h vs0 b o $
-        move ! (1 ∷ []) $
-        peeks ! D0.the-row (Is D0.the-row) (shows 𝓤 H A D0.the-row) h (LL.val D0.the-type D0′.the-laws h ∷ []) (λ was. assigns ! (of-opd ! (load ! (from ! (hop ! (look ! 18 refl) (stop !))) (look-raw ! 1 refl))) (from ! (stop !)) (init ! 12 refl (LL.lawful D0.the-type D0′.the-laws 𝓤 H A W .typed h _ was .0)) $
-        assigns ! (addr ! (from ! (fld ! refl (hop ! (look-in ! 14 (sub ! 0 refl (whole !))) (stop !))))) (from ! (stop !)) (init ! 10 refl (tt, tt)) $
-        assigns ! (agg ! (and-then ! (load ! (from ! (stop !)) (look ! 10 refl)) (and-then ! (load ! (from ! (fld ! refl (stop !))) (look-in ! 14 (sub ! 1 refl (whole !)))) (no-more !)))) (from ! (stop !)) (init ! 8 refl (tt, (tt, (record { fits = is-p2 .0 .1 .0 }, tt)))) $
-        move ! (1 ∷ 0 ∷ 2 ∷ []) $ shuts ! tt D0.the-row s0 h (LL.val D0.the-type D0′.the-laws h ∷ []) b o $ move ! (4 ∷ 2 ∷ []) $ join ! $
-        use1 W (raw (Callee 𝓤 H A at-mem run .pre to)) (goes-in was) $
-        calls-at ! fm (Callee 𝓤 H A at-mem run) known to (and-then ! (load ! (from ! (stop !)) (look ! 9 refl)) (and-then ! (load ! (from ! (stop !)) (look ! 13 refl)) (and-then ! (load ! (from ! (stop !)) (look ! 5 refl)) (no-more !)))) (λ v.
-        use1 W (later (some (λ (r : Listed). ((‵ (flft κ1 q1) ⊛ ‵ ftrue) ⊛ ‵ (D1.the-row .own r (v ∷ []))) ⊛ raw (ensured 𝓤 H A list-value.ended (list-value.clauses 𝓤 H A at-mem run) (κ1, tt) (h, (p1, (p2, tt))) tt r)))) (id⊢ 𝓤 _) $
-        await ! tt $ pick ! (λ r. split ! $ move ! (1 ∷ []) $
-        use1 W (some (λ (zs : (Unit {0} × (Unit {0} × (List ℕ × Unit {0})))). ‵ (lasts list-value.ended (κ1, tt) (h, (p1, (p2, tt))) zs) ⊛ raw (fact 𝓤 (record { answer = r; out = zs .1 .1 .0 } ≡ listAfter h p1 (p2 .now))))) (id⊢ 𝓤 _) $
-        pick ! (λ zs. split ! $ move ! (1 ∷ []) $ heard ! (record { answer = r; out = zs .1 .1 .0 } ≡ listAfter h p1 (p2 .now)) (λ eq.
-        fsplit ! $ drop ! $ fsplit ! $ drop ! $ fsplit ! $ fsplit ! $ move ! (1 ∷ []) $ feqL ! (λ e1. move ! (1 ∷ []) $ drop ! $ move ! (1 ∷ []) $
-        split ! $ move ! (1 ∷ []) $ peeks ! D1.the-row (Is D1.the-row) (shows 𝓤 H A D1.the-row) r (v ∷ []) (λ is.
-        land ! (from ! (stop !)) (init ! 19 refl (LL.lawful D1.the-type D1′.the-laws 𝓤 H A W .typed r _ is .0)) $
-        returns ! (look ! 19 refl) $ forget ! 19 refl $ forget ! 17 refl $ forget ! 15 refl $ forget ! 13 refl $ forget ! 11 refl $ forget ! 9 refl $
-        forget ! 7 refl $
-        move ! (19 ∷ 20 ∷ []) $ free1 ! $ move ! (17 ∷ 18 ∷ []) $ free1 ! $ move ! (15 ∷ 16 ∷ []) $ free1 ! $ move ! (13 ∷ 14 ∷ []) $ free1 ! $
-        move ! (11 ∷ 12 ∷ []) $ free1 ! $ move ! (9 ∷ 10 ∷ []) $ free1 ! $ move ! (7 ∷ 8 ∷ []) $ free1 ! $ free0 ! $
-        keep ! (6 ∷ 4 ∷ 0 ∷ 3 ∷ 1 ∷ 2 ∷ []) $ by ! (exits r v (zs .1 .1 .0) eq e1))))))))))))))))
+        begins ! C Λ code.function (vptr b o ∷ vint w8 p1 ∷ sliceVal (p2 .ptr) (length (p2 .now)) ∷ []) _
+        (λ l0 l1 l2 l3 l4 l5 l6. (
+          ((tt, tt), ((uint-lawful 𝓤 H A W w8 .typed p1 _ is-p1 .0), ((mut-slice-lawful 𝓤 H A W (named 1) κ1 u8 .typed p2 _ is-p2 .0), tt))),
+          move ! (1 ∷ []) $ fsplit ! $ fsplit3 ! $ drop ! $ move ! (3 ∷ []) $ split ! $ move ! (4 ∷ []) $ fsplit ! $ drop ! $ fsplit ! $
+              move ! (5 ∷ 2 ∷ []) $ looks ! tt D0.the-row (Is D0.the-row) (shows 𝓤 H A D0.the-row) (LL.vals D0.the-type D0′.the-laws) (LL.tells D0.the-type D0′.the-laws) (LL.copy D0.the-type D0′.the-copy 𝓤 H A W) h b o (λ s0 vs0. spelt ! D0.the-row (Is D0.the-row) (shows 𝓤 H A D0.the-row) (LL.vals D0.the-type D0′.the-laws) (LL.tells D0.the-type D0′.the-laws) s0 h vs0 b o $
+              move ! (1 ∷ []) $ peeks ! D0.the-row (Is D0.the-row) (shows 𝓤 H A D0.the-row) h (LL.val D0.the-type D0′.the-laws h ∷ []) (λ was. sets ! (reads-behind ! 9 refl 1 refl) 12 refl (LL.lawful D0.the-type D0′.the-laws 𝓤 H A W .typed h _ was .0) $
+              sets ! (addr ! (from ! (fld ! refl (hop ! (look-in ! 11 (sub ! 0 refl (whole !))) (stop !))))) 13 refl (tt, tt) $
+              sets ! (agg ! (and-then ! (reads ! 13 refl) (and-then ! (load ! (from ! (fld ! refl (stop !))) (look-in ! 11 (sub ! 1 refl (whole !)))) (no-more !)))) 14 refl (tt, (tt, (record { fits = is-p2 .0 .1 .0 }, tt))) $
+              move ! (1 ∷ 0 ∷ 2 ∷ []) $ shuts ! tt D0.the-row s0 h (LL.val D0.the-type D0′.the-laws h ∷ []) b o $ move ! (4 ∷ 2 ∷ []) $ join ! $
+              use1 W (raw (Callee 𝓤 H A at-mem run .pre to)) (goes-in was) $
+              calls-at ! fm (Callee 𝓤 H A at-mem run) known to (and-then ! (reads ! 9 refl) (and-then ! (reads ! 7 refl) (and-then ! (reads ! 11 refl) (no-more !)))) (λ v.
+              use1 W (later (some (λ (r : Listed). ((‵ (flft κ1 q1) ⊛ ‵ ftrue) ⊛ ‵ (D1.the-row .own r (v ∷ []))) ⊛ raw (ensured 𝓤 H A list-value.ended (list-value.clauses 𝓤 H A at-mem run) (κ1, tt) (h, (p1, (p2, tt))) tt r)))) (id⊢ 𝓤 _) $
+              await ! tt $ pick ! (λ r. split ! $ move ! (1 ∷ []) $ use1 W (some (λ (zs : (Unit {0} × (Unit {0} × (List ℕ × Unit {0})))). ‵ (lasts list-value.ended (κ1, tt) (h, (p1, (p2, tt))) zs) ⊛ raw (fact 𝓤 (record { answer = r; out = zs .1 .1 .0 } ≡ listAfter h p1 (p2 .now))))) (id⊢ 𝓤 _) $
+              pick ! (λ zs. split ! $ move ! (1 ∷ []) $ heard ! (record { answer = r; out = zs .1 .1 .0 } ≡ listAfter h p1 (p2 .now)) (λ eq.
+              fsplit ! $ drop ! $ fsplit ! $ drop ! $ fsplit ! $ fsplit ! $ move ! (1 ∷ []) $ feqL ! (λ e1. move ! (1 ∷ []) $ drop ! $ move ! (1 ∷ []) $ split ! $ move ! (1 ∷ []) $ peeks ! D1.the-row (Is D1.the-row) (shows 𝓤 H A D1.the-row) r (v ∷ []) (λ is.
+              land ! (from ! (stop !)) (init ! 7 refl (LL.lawful D1.the-type D1′.the-laws 𝓤 H A W .typed r _ is .0)) $
+              returns ! (look ! 7 refl) $ frees ! 7 (_ ∷ _ ∷ _ ∷ _ ∷ _ ∷ _ ∷ _ ∷ []) refl $
+              keep ! (6 ∷ 4 ∷ 0 ∷ 3 ∷ 1 ∷ 2 ∷ []) $ by ! (exits r v (zs .1 .1 .0) eq e1))))))))),
+        ))
 
 module _ {M : Type 1} (𝓤 : URA M) (H : Heap 𝓤) (A : Atoms 𝓤) (W : Given 𝓤 H A) (at-mem : Memory → SProp 𝓤) (run : Routine → Fun 𝓤) where
   walks : (C : Calls 𝓤 H) (Λ : Loops 𝓤 H) → FmC 𝓤 H (W .laws) C → Triple 𝓤 (C #dsg_tables·list-value) (Callee 𝓤 H A at-mem run)

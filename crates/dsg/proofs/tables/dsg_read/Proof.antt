@@ -4,12 +4,14 @@
 use Rattle.dsg.proofs.Walk.{_≡_, refl, ap, ℕ, [], _∷_, List, URA, fullShare, named, Val, vptr, SProp, ent, emp, via, fst∗, id⊢, GName, Lft, Share, ftrue}
 use Rattle.dsg.proofs.Walk.{flft, fobs, fbor, fat, Memory, Routine, Heap, Calls, Loops, WpFn, Tables, Atoms, Fun, fact, givenOf, tables, tablesOf, Given}
 use Rattle.dsg.proofs.Walk.{Item, ‵, raw, _⊛_, ⋆, some, later, _$_, _∵_, !, qed, by, move, keep, drop, use1, split, join, pick, rewrite, fsplit, fsplit3}
-use Rattle.dsg.proofs.Walk.{fjoin, fjoin3, feqI, suffices, frame, await, done, look, look-raw, store-raw, init, forget, stop, hop, fld, from, load}
-use Rattle.dsg.proofs.Walk.{of-opd, and-then, no-more, assigns, land, returns, enter, alloc1, alloc0, params1, pass1, pass0, free1, free0, whole, sub}
-use Rattle.dsg.proofs.Walk.{look-in, Body, FmC, fmOf, WpFn-mono, owns, Is, shows, mem, u8, ShrSlice, sliceVal, slice-vals, shr-slice-tells}
+use Rattle.dsg.proofs.Walk.{fjoin, fjoin3, feqI, suffices, frame, await, done, look, store-raw, init, stop, hop, from}
+use Rattle.dsg.proofs.Walk.{and-then, no-more, assigns, land, returns, whole}
+use Rattle.dsg.proofs.Walk.{Body, FmC, fmOf, WpFn-mono, owns, Is, shows, mem, u8, ShrSlice, sliceVal, slice-vals, shr-slice-tells}
 use Rattle.dsg.proofs.Walk.{shr-slice-lawful, shr-slice-copy, length, RefT, MutRef, ptr-vals, mut-tells, plain, only, opens, closes, owned, peeks, heard}
 use Rattle.dsg.proofs.Walk.{nothing, spelt, onEntry, Meets, tripleOf, Contract, Triple, calls-at, ensured, lasts, entered, cited, says, Stays, stay-ref}
 use Rattle.dsg.proofs.Walk.{stay-none-slice, walkOf, AllGo, goes-none-slice, goes-ref, Walks, ends-at, walked, walk-meets, yes}
+use Rattle.dsg.proofs.Locals.{begins, frees}
+use Rattle.dsg.proofs.Reading.{reads, reads-behind, reads-field, sets}
 use denote.Struct.Laws as LL
 use Rattle.dsg_tables.specs.Tables.{readStepped}
 use Rattle.table.specs.declared.Table.{Table}
@@ -77,34 +79,30 @@ module _ {M : Type 1} (𝓤 : URA M) (H : Heap 𝓤) (A : Atoms 𝓤) (W : Given
     walk : ent 𝓤 (onEntry 𝓤 H A dsg-read.signature (κ0, (κ1, tt)) (q0, (q1, tt)) x at) (WpFn 𝓤 H C Λ code.function (vptr b o ∷ sliceVal (p1 .ptr) (length (p1 .now)) ∷ []) Post)
     walk =
         qed W ((‵ (flft κ0 q0) ⊛ ‵ (flft κ1 q1) ⊛ ‵ ftrue) ∷ ‵ (owns (MutRef (named 0) κ0 D0.the-row ∷ (ShrSlice (named 1) κ1 u8) ∷ []) x at) ∷ []) ∵
-        enter ! C Λ code.function (vptr b o ∷ sliceVal (p1 .ptr) (length (p1 .now)) ∷ []) _ $
-        alloc1 ! (λ l0. alloc1 ! (λ l1. alloc1 ! (λ l2. alloc1 ! (λ l3. alloc1 ! (λ l4. alloc0 ! $ params1 ! $
-        pass1 ! (init ! 6 refl (tt, tt)) $ pass1 ! (init ! 4 refl (shr-slice-lawful 𝓤 H A W (named 1) κ1 u8 .typed p1 _ is-p1 .0)) $ pass0 ! $
-        move ! (11 ∷ []) $ fsplit ! $ fsplit3 ! $ drop ! $ move ! (13 ∷ []) $ split ! $ move ! (4 ∷ []) $ fsplit ! $
-        use1 W (‵ ((ShrSlice (named 1) κ1 u8) .own p1 (sliceVal (p1 .ptr) (length (p1 .now)) ∷ [])) ⊛ ‵ ((ShrSlice (named 1) κ1 u8) .own p1 (sliceVal (p1 .ptr) (length (p1 .now)) ∷ []))) (shr-slice-copy 𝓤 H A W (named 1) κ1 u8 .twice p1 (sliceVal (p1 .ptr) (length (p1 .now)) ∷ [])) $
-        split ! $
-        move ! (5 ∷ 6 ∷ 3 ∷ []) $
-        opens ! tt D0.the-row {h = h} b o (λ vs0. spelt ! D0.the-row (Is D0.the-row) (shows 𝓤 H A D0.the-row) (LL.vals D0.the-type D0′.the-laws) (LL.tells D0.the-type D0′.the-laws) fullShare h vs0 b o $
-        move ! (1 ∷ []) $
-        peeks ! D0.the-row (Is D0.the-row) (shows 𝓤 H A D0.the-row) h (LL.val D0.the-type D0′.the-laws h ∷ []) (λ was. assigns ! (of-opd ! (load ! (from ! (hop ! (look ! 15 refl) (stop !))) (look-raw ! 1 refl))) (from ! (stop !)) (init ! 9 refl (LL.lawful D0.the-type D0′.the-laws 𝓤 H A W .typed h _ was .0)) $
-        move ! (8 ∷ 5 ∷ []) $ join ! $ use1 W (raw (Callee 𝓤 H A at-mem run .pre to)) (goes-in was) $
-        calls-at ! fm (Callee 𝓤 H A at-mem run) known to (and-then ! (load ! (from ! (stop !)) (look ! 8 refl)) (and-then ! (load ! (from ! (stop !)) (look ! 12 refl)) (no-more !))) (λ v.
-        use1 W (later (some (λ (r : ReadStepped). ((‵ (flft κ1 q1) ⊛ ‵ ftrue) ⊛ ‵ (D2.the-row .own r (v ∷ []))) ⊛ raw (ensured 𝓤 H A read-value.ended (read-value.clauses 𝓤 H A at-mem run) (κ1, tt) (h, (p1, tt)) tt r)))) (id⊢ 𝓤 _) $
-        await ! tt $ pick ! (λ r. split ! $ move ! (1 ∷ []) $
-        use1 W (some (λ (zs : (Unit {0} × (Unit {0} × Unit {0}))). ‵ (lasts read-value.ended (κ1, tt) (h, (p1, tt)) zs) ⊛ raw (fact 𝓤 (r ≡ readStepped h (p1 .now))))) (id⊢ 𝓤 _) $
-        pick ! (λ zs. split ! $ move ! (1 ∷ []) $ heard ! (r ≡ readStepped h (p1 .now)) (λ eq.
-        drop ! $ split ! $ move ! (1 ∷ []) $ peeks ! D2.the-row (Is D2.the-row) (shows 𝓤 H A D2.the-row) r (v ∷ []) (λ is.
-        land ! (from ! (stop !)) (init ! 11 refl (LL.lawful D2.the-type D2′.the-laws 𝓤 H A W .typed r _ is .0)) $
-        rewrite ! 11 (λ (u : Val). ‵ (fat fullShare D2′.mir l3 0 u)) (ap only (LL.tells D2.the-type D2′.the-laws r _ is)) refl $
-        assigns ! (of-opd ! (load ! (from ! (fld ! refl (stop !))) (look-in ! 11 (sub ! 1 refl (whole !))))) (from ! (hop ! (look ! 15 refl) (stop !))) (store-raw ! 3 refl (LL.lawful D0.the-type D0′.the-laws 𝓤 H A W .typed (r .table) _ (LL.owed D2.the-type D2′.the-laws r _ is .1 .0) .0)) $
-        assigns ! (of-opd ! (load ! (from ! (fld ! refl (stop !))) (look-in ! 11 (sub ! 0 refl (whole !))))) (from ! (stop !)) (init ! 17 refl (LL.lawful D1.the-type D1′.the-laws 𝓤 H A W .typed (r .answer) _ (LL.owed D2.the-type D2′.the-laws r _ is .0) .0)) $
-        drop ! $ move ! (1 ∷ []) $ drop ! $
-        owned ! D0.the-row (Is D0.the-row) (LL.makes D0.the-type D0′.the-plain 𝓤 H A) (r .table) _ (LL.owed D2.the-type D2′.the-laws r _ is .1 .0) $
-        move ! (2 ∷ 0 ∷ 3 ∷ 4 ∷ 5 ∷ []) $ closes ! tt D0.the-row (r .table) (LL.val D0.the-type D0′.the-laws (r .table) ∷ []) b o $
-        returns ! (look ! 14 refl) $ forget ! 14 refl $ forget ! 12 refl $ forget ! 10 refl $ forget ! 8 refl $ forget ! 6 refl $
-        move ! (14 ∷ 15 ∷ []) $ free1 ! $ move ! (12 ∷ 13 ∷ []) $ free1 ! $ move ! (10 ∷ 11 ∷ []) $ free1 ! $ move ! (8 ∷ 9 ∷ []) $ free1 ! $
-        move ! (6 ∷ 7 ∷ []) $ free1 ! $ free0 ! $
-        keep ! (0 ∷ 1 ∷ 2 ∷ 3 ∷ 4 ∷ []) $ by ! (exits r eq (LL.owed D2.the-type D2′.the-laws r _ is .0))))))))))))))
+        begins ! C Λ code.function (vptr b o ∷ sliceVal (p1 .ptr) (length (p1 .now)) ∷ []) _
+        (λ l0 l1 l2 l3 l4. (
+          ((tt, tt), ((shr-slice-lawful 𝓤 H A W (named 1) κ1 u8 .typed p1 _ is-p1 .0), tt)),
+          move ! (1 ∷ []) $ fsplit ! $ fsplit3 ! $ drop ! $ move ! (3 ∷ []) $ split ! $ move ! (4 ∷ []) $ fsplit ! $
+              use1 W (‵ ((ShrSlice (named 1) κ1 u8) .own p1 (sliceVal (p1 .ptr) (length (p1 .now)) ∷ [])) ⊛ ‵ ((ShrSlice (named 1) κ1 u8) .own p1 (sliceVal (p1 .ptr) (length (p1 .now)) ∷ []))) (shr-slice-copy 𝓤 H A W (named 1) κ1 u8 .twice p1 (sliceVal (p1 .ptr) (length (p1 .now)) ∷ [])) $
+              split ! $
+              move ! (5 ∷ 6 ∷ 3 ∷ []) $ opens ! tt D0.the-row {h = h} b o (λ vs0. spelt ! D0.the-row (Is D0.the-row) (shows 𝓤 H A D0.the-row) (LL.vals D0.the-type D0′.the-laws) (LL.tells D0.the-type D0′.the-laws) fullShare h vs0 b o $
+              move ! (1 ∷ []) $ peeks ! D0.the-row (Is D0.the-row) (shows 𝓤 H A D0.the-row) h (LL.val D0.the-type D0′.the-laws h ∷ []) (λ was. sets ! (reads-behind ! 10 refl 1 refl) 13 refl (LL.lawful D0.the-type D0′.the-laws 𝓤 H A W .typed h _ was .0) $
+              move ! (8 ∷ 5 ∷ []) $ join ! $ use1 W (raw (Callee 𝓤 H A at-mem run .pre to)) (goes-in was) $
+              calls-at ! fm (Callee 𝓤 H A at-mem run) known to (and-then ! (reads ! 12 refl) (and-then ! (reads ! 10 refl) (no-more !))) (λ v.
+              use1 W (later (some (λ (r : ReadStepped). ((‵ (flft κ1 q1) ⊛ ‵ ftrue) ⊛ ‵ (D2.the-row .own r (v ∷ []))) ⊛ raw (ensured 𝓤 H A read-value.ended (read-value.clauses 𝓤 H A at-mem run) (κ1, tt) (h, (p1, tt)) tt r)))) (id⊢ 𝓤 _) $
+              await ! tt $ pick ! (λ r. split ! $ move ! (1 ∷ []) $ use1 W (some (λ (zs : (Unit {0} × (Unit {0} × Unit {0}))). ‵ (lasts read-value.ended (κ1, tt) (h, (p1, tt)) zs) ⊛ raw (fact 𝓤 (r ≡ readStepped h (p1 .now))))) (id⊢ 𝓤 _) $
+              pick ! (λ zs. split ! $ move ! (1 ∷ []) $ heard ! (r ≡ readStepped h (p1 .now)) (λ eq.
+              drop ! $ split ! $ move ! (1 ∷ []) $ peeks ! D2.the-row (Is D2.the-row) (shows 𝓤 H A D2.the-row) r (v ∷ []) (λ is.
+              land ! (from ! (stop !)) (init ! 12 refl (LL.lawful D2.the-type D2′.the-laws 𝓤 H A W .typed r _ is .0)) $
+              rewrite ! 12 (λ (u : Val). ‵ (fat fullShare D2′.mir l3 0 u)) (ap only (LL.tells D2.the-type D2′.the-laws r _ is)) refl $
+              assigns ! (reads-field ! 12 1 refl refl refl) (from ! (hop ! (look ! 10 refl) (stop !))) (store-raw ! 3 refl (LL.lawful D0.the-type D0′.the-laws 𝓤 H A W .typed (r .table) _ (LL.owed D2.the-type D2′.the-laws r _ is .1 .0) .0)) $
+              sets ! (reads-field ! 12 0 refl refl refl) 9 refl (LL.lawful D1.the-type D1′.the-laws 𝓤 H A W .typed (r .answer) _ (LL.owed D2.the-type D2′.the-laws r _ is .0) .0) $
+              drop ! $ move ! (1 ∷ []) $ drop ! $
+              owned ! D0.the-row (Is D0.the-row) (LL.makes D0.the-type D0′.the-plain 𝓤 H A) (r .table) _ (LL.owed D2.the-type D2′.the-laws r _ is .1 .0) $
+              move ! (2 ∷ 0 ∷ 3 ∷ 4 ∷ 5 ∷ []) $ closes ! tt D0.the-row (r .table) (LL.val D0.the-type D0′.the-laws (r .table) ∷ []) b o $
+              returns ! (look ! 6 refl) $ frees ! 6 (_ ∷ _ ∷ _ ∷ _ ∷ _ ∷ []) refl $
+              keep ! (0 ∷ 1 ∷ 2 ∷ 3 ∷ 4 ∷ []) $ by ! (exits r eq (LL.owed D2.the-type D2′.the-laws r _ is .0))))))))),
+        ))
 
 module _ {M : Type 1} (𝓤 : URA M) (H : Heap 𝓤) (A : Atoms 𝓤) (W : Given 𝓤 H A) (at-mem : Memory → SProp 𝓤) (run : Routine → Fun 𝓤) where
   walks : (C : Calls 𝓤 H) (Λ : Loops 𝓤 H) → FmC 𝓤 H (W .laws) C → Triple 𝓤 (C #dsg_tables·read-value) (Callee 𝓤 H A at-mem run)
