@@ -7,14 +7,14 @@
 --
 -- The sections stand in the order that Walk names. A proof of such a function cites `meets` at its callee's name and definition.
 -- Trusts: nothing.
-use Rattle.dsg.proofs.Walk.{_≡_, refl, Bool, ℕ, [], _∷_, List, URA, named, Val, vptr, SProp, ent, emp, via, fst∗, id⊢, GName, Lft, Share, ftrue, flft}
-use Rattle.dsg.proofs.Walk.{fres, fshr-bor, Memory, Routine, Heap, Calls, Loops, WpFn, Tables, Atoms, Fun, fact, Given, Item, ‵, raw, _⊛_, ⋆, some, later}
-use Rattle.dsg.proofs.Walk.{_$_, _∵_, !, qed, by, move, keep, drop, use0, use1, split, join, pick, fsplit, fsplit3, fjoin, fjoin3, feqI, suffices, frame}
-use Rattle.dsg.proofs.Walk.{await, done, look, look-raw, init, forget, stop, hop, from, load, of-opd, and-then, no-more, assigns, land, returns, enter}
-use Rattle.dsg.proofs.Walk.{alloc1, alloc0, params1, pass1, pass0, free1, free0, FmC, fmOf, WpFn-mono, owns, Is, shows, mem, partAt, Boolean, bool-lawful}
-use Rattle.dsg.proofs.Walk.{RefT, ShrRef, ptr-vals, shr-tells, plain, looks, shuts, owned, peeks, heard, nothing, spelt, onEntry, Meets, tripleOf, Contract}
-use Rattle.dsg.proofs.Walk.{Triple, calls-at, ensured, lasts, says, Stays, stay-none-ref, walkOf, AllGo, goes-none-ref, Walks, ends-at, walked, walk-meets}
-use Rattle.dsg.proofs.Walk.{yes}
+use Rattle.walks.proofs.Walk.{_≡_, refl, Bool, ℕ, [], _∷_, List, URA, named, Val, vptr, SProp, ent, emp, via, fst∗, id⊢, GName, Lft, Share, ftrue, flft}
+use Rattle.walks.proofs.Walk.{fres, fshr-bor, Memory, Routine, Heap, Calls, Loops, WpFn, Tables, Atoms, Fun, fact, Given, Item, ‵, raw, _⊛_, ⋆, some, later}
+use Rattle.walks.proofs.Walk.{_$_, _∵_, !, qed, by, move, keep, drop, use0, use1, split, join, pick, fsplit, fsplit3, fjoin, fjoin3, feqI, suffices, frame}
+use Rattle.walks.proofs.Walk.{await, done, look, look-raw, init, forget, stop, hop, from, load, of-opd, and-then, no-more, assigns, land, returns, enter}
+use Rattle.walks.proofs.Walk.{alloc1, alloc0, params1, pass1, pass0, free1, free0, FmC, fmOf, WpFn-mono, owns, Is, shows, mem, partAt, Boolean, bool-lawful}
+use Rattle.walks.proofs.Walk.{RefT, ShrRef, ptr-vals, shr-tells, plain, looks, shuts, owned, peeks, heard, nothing, spelt, onEntry, Meets, tripleOf, Contract}
+use Rattle.walks.proofs.Walk.{Triple, calls-at, ensured, lasts, says, Stays, stay-none-ref, walkOf, AllGo, goes-none-ref, Walks, ends-at, walked, walk-meets}
+use Rattle.walks.proofs.Walk.{yes}
 use mathlib.Core.Path.{subst⁻¹}
 use mir.Syntax.{Name, Ty, tyBool, tyUnit, tyRef, tyNamed, imm, local, valueLocal, place, deref, rvOpd, copy, assign, call, seq, return, Fn}
 use denote.Ref.{now}

@@ -1,17 +1,17 @@
 -- `dsg::events::dsg_event` meets its contract, by a walk of its code: each record behind a reference is copied whole, `event_value` is called, of which the proof knows only its
 -- contract, each record of its result is stored whole, and each borrow is closed at it.
 -- Trusts: nothing.
-use Rattle.dsg.proofs.Walk.{_≡_, refl, ap, ℕ, [], _∷_, List, URA, fullShare, named, w8, w16, w32, Val, vint, vptr, SProp, ent, emp, via, fst∗, id⊢, GName}
-use Rattle.dsg.proofs.Walk.{Lft, Share, ftrue, flft, fobs, fbor, fat, Memory, Routine, Heap, Calls, Loops, WpFn, Tables, Atoms, Fun, fact, givenOf}
-use Rattle.dsg.proofs.Walk.{tables, tablesOf, Given, Item, ‵, raw, _⊛_, ⋆, some, later, _$_, _∵_, !, qed, by, move, keep, drop, use0, use1, split, join}
-use Rattle.dsg.proofs.Walk.{pick, rewrite, fsplit, fsplit3, fjoin, fjoin3, feqI, suffices, frame, await, done, look, store-raw, init}
-use Rattle.dsg.proofs.Walk.{stop, hop, from, and-then, no-more, assigns, land, returns}
-use Rattle.dsg.proofs.Walk.{whole, Body, FmC, fmOf, WpFn-mono, owns, Is, shows, mem, uint-vals, uint-tells, uint-makes}
-use Rattle.dsg.proofs.Walk.{uint-lawful, u8, u16, u32, RefT, MutRef, ptr-vals, mut-tells, plain, only, opens, closes, owned, peeks, heard, nothing, spelt}
-use Rattle.dsg.proofs.Walk.{onEntry, Meets, tripleOf, Contract, Triple, calls-at, ensured, lasts, entered, cited, says, Stays, stay-ref, stay-none}
-use Rattle.dsg.proofs.Walk.{walkOf, AllGo, goes-none, goes-ref, Walks, ends-at, walked, walk-meets, yes}
-use Rattle.dsg.proofs.Locals.{begins, frees}
-use Rattle.dsg.proofs.Reading.{reads, reads-behind, reads-field, sets}
+use Rattle.walks.proofs.Walk.{_≡_, refl, ap, ℕ, [], _∷_, List, URA, fullShare, named, w8, w16, w32, Val, vint, vptr, SProp, ent, emp, via, fst∗, id⊢, GName}
+use Rattle.walks.proofs.Walk.{Lft, Share, ftrue, flft, fobs, fbor, fat, Memory, Routine, Heap, Calls, Loops, WpFn, Tables, Atoms, Fun, fact, givenOf}
+use Rattle.walks.proofs.Walk.{tables, tablesOf, Given, Item, ‵, raw, _⊛_, ⋆, some, later, _$_, _∵_, !, qed, by, move, keep, drop, use0, use1, split, join}
+use Rattle.walks.proofs.Walk.{pick, rewrite, fsplit, fsplit3, fjoin, fjoin3, feqI, suffices, frame, await, done, look, store-raw, init}
+use Rattle.walks.proofs.Walk.{stop, hop, from, and-then, no-more, assigns, land, returns}
+use Rattle.walks.proofs.Walk.{whole, Body, FmC, fmOf, WpFn-mono, owns, Is, shows, mem, uint-vals, uint-tells, uint-makes}
+use Rattle.walks.proofs.Walk.{uint-lawful, u8, u16, u32, RefT, MutRef, ptr-vals, mut-tells, plain, only, opens, closes, owned, peeks, heard, nothing, spelt}
+use Rattle.walks.proofs.Walk.{onEntry, Meets, tripleOf, Contract, Triple, calls-at, ensured, lasts, entered, cited, says, Stays, stay-ref, stay-none}
+use Rattle.walks.proofs.Walk.{walkOf, AllGo, goes-none, goes-ref, Walks, ends-at, walked, walk-meets, yes}
+use Rattle.walks.proofs.Locals.{begins, frees}
+use Rattle.walks.proofs.Reading.{reads, reads-behind, reads-field, sets}
 use denote.Struct.Laws as LL
 use Rattle.dsg_events.specs.Events.{eventStepped}
 use Rattle.modem_record.specs.declared.Modem.{Modem}

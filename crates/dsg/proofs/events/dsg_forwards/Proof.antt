@@ -1,6 +1,6 @@
 -- `dsg::events::dsg_forwards` meets its contract: its code is `asked` of `modem_asked::forwards`, whose walk is in proofs/Asked.antt.
 -- Trusts: nothing.
-use Rattle.dsg.proofs.Walk.{_≡_, refl, URA, SProp, Memory, Routine, Heap, Atoms, Fun, entered, cited, tripleOf, givenOf, tables, tablesOf}
+use Rattle.walks.proofs.Walk.{_≡_, refl, URA, SProp, Memory, Routine, Heap, Atoms, Fun, entered, cited, tripleOf, givenOf, tables, tablesOf}
 use Rattle.dsg.proofs.Asked.{asks, Callee, meets}
 use Rattle.modem_asked.specs.Asked.{forwards}
 use Rattle.modem_asked.proofs.forwards.Symbol as forwards-def

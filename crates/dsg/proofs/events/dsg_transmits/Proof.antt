@@ -1,6 +1,6 @@
 -- `dsg::events::dsg_transmits` meets its contract: its code is `asked` of `modem_asked::transmits`, whose walk is in proofs/Asked.antt.
 -- Trusts: nothing.
-use Rattle.dsg.proofs.Walk.{_≡_, refl, URA, SProp, Memory, Routine, Heap, Atoms, Fun, entered, cited, tripleOf, givenOf, tables, tablesOf}
+use Rattle.walks.proofs.Walk.{_≡_, refl, URA, SProp, Memory, Routine, Heap, Atoms, Fun, entered, cited, tripleOf, givenOf, tables, tablesOf}
 use Rattle.dsg.proofs.Asked.{asks, Callee, meets}
 use Rattle.modem_asked.specs.Asked.{transmits}
 use Rattle.modem_asked.proofs.transmits.Symbol as transmits-def

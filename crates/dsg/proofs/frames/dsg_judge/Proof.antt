@@ -1,18 +1,18 @@
 -- `dsg::frames::dsg_judge` meets its contract, by a walk of its code: each record behind a reference is copied whole, `judge_value` is called, of which the proof knows only its
 -- contract, and its answer is handed back.
 -- Trusts: nothing.
-use Rattle.dsg.proofs.Walk.{_≡_, refl, ℕ, [], _∷_, List, URA, named, w8, w64, Val, vint, vptr, SProp, ent, emp, via, fst∗, id⊢, GName, Lft, Share, ftrue}
-use Rattle.dsg.proofs.Walk.{flft, fres, fshr-bor, Memory, Routine, Heap, Calls, Loops, WpFn, Tables, Atoms, Fun, fact, givenOf, tables, tablesOf, Given}
-use Rattle.dsg.proofs.Walk.{Item, ‵, raw, _⊛_, ⋆, some, later, _$_, _∵_, !, qed, by, move, keep, drop, use1, split, join, pick, fsplit, fsplit3, fjoin}
-use Rattle.dsg.proofs.Walk.{fjoin3, feqI, suffices, frame, await, done, look, init, stop, from, and-then, no-more}
-use Rattle.dsg.proofs.Walk.{land, returns, FmC, fmOf, WpFn-mono, owns, Is, shows}
-use Rattle.dsg.proofs.Walk.{mem, partAt, uint-vals, uint-tells, uint-makes, uint-lawful, u8, u64, ShrSlice, sliceVal, slice-vals, shr-slice-tells}
-use Rattle.dsg.proofs.Walk.{shr-slice-lawful, shr-slice-copy, length, RefT, ShrRef, ptr-vals, shr-tells, plain, looks, shuts, owned, peeks, heard}
-use Rattle.dsg.proofs.Walk.{nothing, spelt, onEntry, Meets, tripleOf, Contract, Triple, calls-at, ensured, lasts, entered, cited, says, Stays, stay-none}
-use Rattle.dsg.proofs.Walk.{stay-none-ref, stay-none-slice, walkOf, AllGo, goes-none, goes-none-ref, goes-none-slice, Walks, ends-at, walked, walk-meets}
-use Rattle.dsg.proofs.Walk.{yes}
-use Rattle.dsg.proofs.Locals.{begins, frees}
-use Rattle.dsg.proofs.Reading.{reads, reads-behind, sets}
+use Rattle.walks.proofs.Walk.{_≡_, refl, ℕ, [], _∷_, List, URA, named, w8, w64, Val, vint, vptr, SProp, ent, emp, via, fst∗, id⊢, GName, Lft, Share, ftrue}
+use Rattle.walks.proofs.Walk.{flft, fres, fshr-bor, Memory, Routine, Heap, Calls, Loops, WpFn, Tables, Atoms, Fun, fact, givenOf, tables, tablesOf, Given}
+use Rattle.walks.proofs.Walk.{Item, ‵, raw, _⊛_, ⋆, some, later, _$_, _∵_, !, qed, by, move, keep, drop, use1, split, join, pick, fsplit, fsplit3, fjoin}
+use Rattle.walks.proofs.Walk.{fjoin3, feqI, suffices, frame, await, done, look, init, stop, from, and-then, no-more}
+use Rattle.walks.proofs.Walk.{land, returns, FmC, fmOf, WpFn-mono, owns, Is, shows}
+use Rattle.walks.proofs.Walk.{mem, partAt, uint-vals, uint-tells, uint-makes, uint-lawful, u8, u64, ShrSlice, sliceVal, slice-vals, shr-slice-tells}
+use Rattle.walks.proofs.Walk.{shr-slice-lawful, shr-slice-copy, length, RefT, ShrRef, ptr-vals, shr-tells, plain, looks, shuts, owned, peeks, heard}
+use Rattle.walks.proofs.Walk.{nothing, spelt, onEntry, Meets, tripleOf, Contract, Triple, calls-at, ensured, lasts, entered, cited, says, Stays, stay-none}
+use Rattle.walks.proofs.Walk.{stay-none-ref, stay-none-slice, walkOf, AllGo, goes-none, goes-none-ref, goes-none-slice, Walks, ends-at, walked, walk-meets}
+use Rattle.walks.proofs.Walk.{yes}
+use Rattle.walks.proofs.Locals.{begins, frees}
+use Rattle.walks.proofs.Reading.{reads, reads-behind, sets}
 use denote.Struct.Laws as LL
 use Rattle.dsg_frames.specs.Frames.{verdictFor}
 use Rattle.table.specs.declared.Table.{Table}

@@ -1,18 +1,18 @@
 -- `dsg::frames::dsg_judge_prepared` meets its contract, by a walk of its code: the numbers of the record are copied, each array in it is lent on for the
 -- lifetime of the record itself, so nothing of it is copied, and `judge_parts` is called, of which the proof knows only its contract.
 -- Trusts: nothing.
-use Rattle.dsg.proofs.Walk.{_≡_, refl, ap, ℕ, [], _∷_, List, URA, named, w8, w64, Val, vint, vptr, SProp, ent, emp, via, fst∗, id⊢, GName, Lft, Share}
-use Rattle.dsg.proofs.Walk.{ftrue, flft, fres, fshr-bor, Memory, Routine, Heap, Calls, Loops, WpFn, Tables, Atoms, Fun, fact, givenOf, tables, tablesOf}
-use Rattle.dsg.proofs.Walk.{Given, Item, ‵, raw, _⊛_, ⋆, some, later, _$_, _∵_, !, qed, by, move, keep, drop, use1, split, join, pick, fsplit, fsplit3}
-use Rattle.dsg.proofs.Walk.{fjoin, fjoin3, feqI, suffices, frame, await, done, look, init, stop, hop, fld, from, load, addr, of-opd, and-then}
-use Rattle.dsg.proofs.Walk.{no-more, land, returns, whole, sub, look-in, FmC, fmOf}
-use Rattle.dsg.proofs.Walk.{WpFn-mono, owns, Is, shows, mem, partAt, uint-makes, uint-lawful, u8, u16, u32, u64, ShrSlice, sliceVal, slice-vals}
-use Rattle.dsg.proofs.Walk.{shr-slice-tells, shr-slice-lawful, shr-slice-copy, length, RefT, ShrRef, ptr-vals, shr-tells, plain, looks, shuts, owned}
-use Rattle.dsg.proofs.Walk.{peeks, heard, nothing, spelt, onEntry, Meets, tripleOf, Contract, Triple, calls-at, ensured, lasts, entered, cited, says}
-use Rattle.dsg.proofs.Walk.{Stays, stay-none-ref, stay-none-slice, walkOf, AllGo, goes-none-ref, goes-none-slice, Walks, ends-at, walked, walk-meets, yes}
-use Rattle.dsg.proofs.Locals.{begins, frees}
-use Rattle.dsg.proofs.Reading.{reads, sets}
-use Rattle.dsg.proofs.Lent.{lends}
+use Rattle.walks.proofs.Walk.{_≡_, refl, ap, ℕ, [], _∷_, List, URA, named, w8, w64, Val, vint, vptr, SProp, ent, emp, via, fst∗, id⊢, GName, Lft, Share}
+use Rattle.walks.proofs.Walk.{ftrue, flft, fres, fshr-bor, Memory, Routine, Heap, Calls, Loops, WpFn, Tables, Atoms, Fun, fact, givenOf, tables, tablesOf}
+use Rattle.walks.proofs.Walk.{Given, Item, ‵, raw, _⊛_, ⋆, some, later, _$_, _∵_, !, qed, by, move, keep, drop, use1, split, join, pick, fsplit, fsplit3}
+use Rattle.walks.proofs.Walk.{fjoin, fjoin3, feqI, suffices, frame, await, done, look, init, stop, hop, fld, from, load, addr, of-opd, and-then}
+use Rattle.walks.proofs.Walk.{no-more, land, returns, whole, sub, look-in, FmC, fmOf}
+use Rattle.walks.proofs.Walk.{WpFn-mono, owns, Is, shows, mem, partAt, uint-makes, uint-lawful, u8, u16, u32, u64, ShrSlice, sliceVal, slice-vals}
+use Rattle.walks.proofs.Walk.{shr-slice-tells, shr-slice-lawful, shr-slice-copy, length, RefT, ShrRef, ptr-vals, shr-tells, plain, looks, shuts, owned}
+use Rattle.walks.proofs.Walk.{peeks, heard, nothing, spelt, onEntry, Meets, tripleOf, Contract, Triple, calls-at, ensured, lasts, entered, cited, says}
+use Rattle.walks.proofs.Walk.{Stays, stay-none-ref, stay-none-slice, walkOf, AllGo, goes-none-ref, goes-none-slice, Walks, ends-at, walked, walk-meets, yes}
+use Rattle.walks.proofs.Locals.{begins, frees}
+use Rattle.walks.proofs.Reading.{reads, sets}
+use Rattle.walks.proofs.Lent.{lends}
 use borrow.Struct.Share.{part-field}
 use denote.Array.{Array}
 use Prim.Native.Nat.{_+_}

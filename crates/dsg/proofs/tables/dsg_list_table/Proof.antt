@@ -1,18 +1,18 @@
 -- `dsg::tables::dsg_list_table` meets its contract, by a walk of its code: each record behind a reference is copied whole, `list_value` is called, of which the proof knows only its
 -- contract, and its answer is handed back.
 -- Trusts: nothing.
-use Rattle.dsg.proofs.Walk.{_≡_, refl, ℕ, [], _∷_, List, URA, named, w8, Val, vint, vptr, SProp, ent, emp, via, fst∗, id⊢, GName, Lft, Share, ftrue, flft}
-use Rattle.dsg.proofs.Walk.{fres, fshr-bor, Memory, Routine, Heap, Calls, Loops, WpFn, Tables, Atoms, Fun, fact, givenOf, tables, tablesOf, Given, Item}
-use Rattle.dsg.proofs.Walk.{‵, raw, _⊛_, ⋆, some, later, _$_, _∵_, !, qed, by, move, keep, drop, use1, split, join, pick, fsplit, fsplit3, fjoin, fjoin3}
-use Rattle.dsg.proofs.Walk.{feqI, feqL, suffices, frame, await, done, look, init, stop, hop, fld, from, load, addr, and-then}
-use Rattle.dsg.proofs.Walk.{no-more, land, returns, agg, whole, sub, look-in, FmC}
-use Rattle.dsg.proofs.Walk.{fmOf, WpFn-mono, owns, Is, shows, mem, partAt, uint-vals, uint-tells, uint-makes, uint-lawful, u8, MutSlice, finally}
-use Rattle.dsg.proofs.Walk.{mut-slice-tells, mut-slice-lawful, sliceVal, slice-vals, length, RefT, ShrRef, ptr-vals, shr-tells, plain, looks, shuts}
-use Rattle.dsg.proofs.Walk.{owned, peeks, heard, nothing, spelt, onEntry, Meets, tripleOf, Contract, Triple, calls-at, ensured, lasts, entered, cited}
-use Rattle.dsg.proofs.Walk.{says, Stays, stay-none, stay-none-ref, gave-slice, walkOf, AllGo, goes-none, goes-none-ref, goes-gave-slice, Walks, ends-at}
-use Rattle.dsg.proofs.Walk.{walked, walk-meets, yes}
-use Rattle.dsg.proofs.Locals.{begins, frees}
-use Rattle.dsg.proofs.Reading.{reads, reads-behind, sets}
+use Rattle.walks.proofs.Walk.{_≡_, refl, ℕ, [], _∷_, List, URA, named, w8, Val, vint, vptr, SProp, ent, emp, via, fst∗, id⊢, GName, Lft, Share, ftrue, flft}
+use Rattle.walks.proofs.Walk.{fres, fshr-bor, Memory, Routine, Heap, Calls, Loops, WpFn, Tables, Atoms, Fun, fact, givenOf, tables, tablesOf, Given, Item}
+use Rattle.walks.proofs.Walk.{‵, raw, _⊛_, ⋆, some, later, _$_, _∵_, !, qed, by, move, keep, drop, use1, split, join, pick, fsplit, fsplit3, fjoin, fjoin3}
+use Rattle.walks.proofs.Walk.{feqI, feqL, suffices, frame, await, done, look, init, stop, hop, fld, from, load, addr, and-then}
+use Rattle.walks.proofs.Walk.{no-more, land, returns, agg, whole, sub, look-in, FmC}
+use Rattle.walks.proofs.Walk.{fmOf, WpFn-mono, owns, Is, shows, mem, partAt, uint-vals, uint-tells, uint-makes, uint-lawful, u8, MutSlice, finally}
+use Rattle.walks.proofs.Walk.{mut-slice-tells, mut-slice-lawful, sliceVal, slice-vals, length, RefT, ShrRef, ptr-vals, shr-tells, plain, looks, shuts}
+use Rattle.walks.proofs.Walk.{owned, peeks, heard, nothing, spelt, onEntry, Meets, tripleOf, Contract, Triple, calls-at, ensured, lasts, entered, cited}
+use Rattle.walks.proofs.Walk.{says, Stays, stay-none, stay-none-ref, gave-slice, walkOf, AllGo, goes-none, goes-none-ref, goes-gave-slice, Walks, ends-at}
+use Rattle.walks.proofs.Walk.{walked, walk-meets, yes}
+use Rattle.walks.proofs.Locals.{begins, frees}
+use Rattle.walks.proofs.Reading.{reads, reads-behind, sets}
 use denote.Struct.Laws as LL
 use Rattle.dsg_tables.specs.Tables.{listAfter}
 use Rattle.table.specs.declared.Table.{Table}

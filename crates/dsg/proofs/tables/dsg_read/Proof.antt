@@ -1,17 +1,17 @@
 -- `dsg::tables::dsg_read` meets its contract, by a walk of its code: each record behind a reference is copied whole, `read_value` is called, of which the proof knows only its
 -- contract, each record of its result is stored whole, and each borrow is closed at it.
 -- Trusts: nothing.
-use Rattle.dsg.proofs.Walk.{_≡_, refl, ap, ℕ, [], _∷_, List, URA, fullShare, named, Val, vptr, SProp, ent, emp, via, fst∗, id⊢, GName, Lft, Share, ftrue}
-use Rattle.dsg.proofs.Walk.{flft, fobs, fbor, fat, Memory, Routine, Heap, Calls, Loops, WpFn, Tables, Atoms, Fun, fact, givenOf, tables, tablesOf, Given}
-use Rattle.dsg.proofs.Walk.{Item, ‵, raw, _⊛_, ⋆, some, later, _$_, _∵_, !, qed, by, move, keep, drop, use1, split, join, pick, rewrite, fsplit, fsplit3}
-use Rattle.dsg.proofs.Walk.{fjoin, fjoin3, feqI, suffices, frame, await, done, look, store-raw, init, stop, hop, from}
-use Rattle.dsg.proofs.Walk.{and-then, no-more, assigns, land, returns, whole}
-use Rattle.dsg.proofs.Walk.{Body, FmC, fmOf, WpFn-mono, owns, Is, shows, mem, u8, ShrSlice, sliceVal, slice-vals, shr-slice-tells}
-use Rattle.dsg.proofs.Walk.{shr-slice-lawful, shr-slice-copy, length, RefT, MutRef, ptr-vals, mut-tells, plain, only, opens, closes, owned, peeks, heard}
-use Rattle.dsg.proofs.Walk.{nothing, spelt, onEntry, Meets, tripleOf, Contract, Triple, calls-at, ensured, lasts, entered, cited, says, Stays, stay-ref}
-use Rattle.dsg.proofs.Walk.{stay-none-slice, walkOf, AllGo, goes-none-slice, goes-ref, Walks, ends-at, walked, walk-meets, yes}
-use Rattle.dsg.proofs.Locals.{begins, frees}
-use Rattle.dsg.proofs.Reading.{reads, reads-behind, reads-field, sets}
+use Rattle.walks.proofs.Walk.{_≡_, refl, ap, ℕ, [], _∷_, List, URA, fullShare, named, Val, vptr, SProp, ent, emp, via, fst∗, id⊢, GName, Lft, Share, ftrue}
+use Rattle.walks.proofs.Walk.{flft, fobs, fbor, fat, Memory, Routine, Heap, Calls, Loops, WpFn, Tables, Atoms, Fun, fact, givenOf, tables, tablesOf, Given}
+use Rattle.walks.proofs.Walk.{Item, ‵, raw, _⊛_, ⋆, some, later, _$_, _∵_, !, qed, by, move, keep, drop, use1, split, join, pick, rewrite, fsplit, fsplit3}
+use Rattle.walks.proofs.Walk.{fjoin, fjoin3, feqI, suffices, frame, await, done, look, store-raw, init, stop, hop, from}
+use Rattle.walks.proofs.Walk.{and-then, no-more, assigns, land, returns, whole}
+use Rattle.walks.proofs.Walk.{Body, FmC, fmOf, WpFn-mono, owns, Is, shows, mem, u8, ShrSlice, sliceVal, slice-vals, shr-slice-tells}
+use Rattle.walks.proofs.Walk.{shr-slice-lawful, shr-slice-copy, length, RefT, MutRef, ptr-vals, mut-tells, plain, only, opens, closes, owned, peeks, heard}
+use Rattle.walks.proofs.Walk.{nothing, spelt, onEntry, Meets, tripleOf, Contract, Triple, calls-at, ensured, lasts, entered, cited, says, Stays, stay-ref}
+use Rattle.walks.proofs.Walk.{stay-none-slice, walkOf, AllGo, goes-none-slice, goes-ref, Walks, ends-at, walked, walk-meets, yes}
+use Rattle.walks.proofs.Locals.{begins, frees}
+use Rattle.walks.proofs.Reading.{reads, reads-behind, reads-field, sets}
 use denote.Struct.Laws as LL
 use Rattle.dsg_tables.specs.Tables.{readStepped}
 use Rattle.table.specs.declared.Table.{Table}

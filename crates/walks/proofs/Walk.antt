@@ -1,7 +1,7 @@
 -- Walk: the names of the program logic that a walk of a thin function needs (guides/PROOFS.md of the kit), passed on in one place.
 --
 -- A walk goes through the code of a function that takes a record behind a reference: the record is copied whole out of the borrow, one
--- function is called, and, behind a `&mut`, a record of its result is stored whole. All walks of this crate have that shape; they
+-- function is called, and, behind a `&mut`, a record of its result is stored whole. The walks of crate dsg have that shape; they
 -- differ in the records, slices and numbers of their signatures. Each file names, in this order:
 --   stayed, Callee     what becomes of each parameter; the callee's contract
 --   left, exits        what is had at the return, and that it gives the contract
