@@ -2,7 +2,7 @@
 --
 --   reads          a local
 --   reads-behind   the record that a local points to
---   reads-field    field k of a record in a local
+--   reads-field    field k of a record in a local, which is v
 --   sets           a local is set for the first time
 --
 -- Entry n of the context is the local's place, and `refl` says so. Each is a chain of the kit's rules, of which every one names the whole context.
@@ -36,12 +36,13 @@ module _ {M : Type 1} {𝓤 : URA M} {H : Heap 𝓤} {A : Atoms 𝓤} {K : Type 
       → (m : ℕ) → nth 𝓤 H A m Γ ≡ ‵ (fat p (rawTy τ) b o v) → Rv K W Γ E (rvOpd (copy (place i (deref τ ∷ [])))) v
   reads-behind t n e m f = of-opd t (load t (from t (hop t (look t n e) (stop t))) (look-raw t m f))
 
-  pub reads-field : K → (n k : ℕ) {i : ℕ} {q : Share} {ν : Sym} {τs : Tys} {vs : Vals} {τ : Ty} {d : ℕ}
+  pub reads-field : K → (n k : ℕ) (v : Val) {i : ℕ} {q : Share} {ν : Sym} {τs : Tys} {vs : Vals} {τ : Ty} {d : ℕ}
       → nth 𝓤 H A n Γ ≡ ‵ (fat q (tyStruct ν τs) (spotOf 𝓤 H E i .1) (spotOf 𝓤 H E i .2) (vstruct vs))
-      → fieldOf (spotOf 𝓤 H E i .0) k ≡ some (τ, d) → fieldAt zero τs k ≡ some (τ, d) → Rv K W Γ E (rvOpd (copy (place i (field k ∷ [])))) (getV vs k)
-  reads-field t n k {i} {q} {ν} {τs} {vs} {τ} {d} e f g =
-      of-opd t (load t (from t (fld t f (stop t)))
-      (look-in t n (subst (λ (j : Item 𝓤). Part K W j q τ (spotOf 𝓤 H E i .1) (spotOf 𝓤 H E i .2 + d) (getV vs k) (λ u. ‵ (fat q (tyStruct ν τs) (spotOf 𝓤 H E i .1) (spotOf 𝓤 H E i .2) (vstruct (setV vs k u))))) (sym e) (sub t k g (whole t)))))
+      → fieldOf (spotOf 𝓤 H E i .0) k ≡ some (τ, d) → fieldAt zero τs k ≡ some (τ, d) → getV vs k ≡ v → Rv K W Γ E (rvOpd (copy (place i (field k ∷ [])))) v
+  reads-field t n k v {i} {q} {ν} {τs} {vs} {τ} {d} e f g is =
+      subst (λ (u : Val). Rv K W Γ E (rvOpd (copy (place i (field k ∷ [])))) u) is (of-opd t (load t (from t (fld t f (stop t)))
+      (look-in t n (subst (λ (j : Item 𝓤). Part K W j q τ (spotOf 𝓤 H E i .1) (spotOf 𝓤 H E i .2 + d) (getV vs k)
+      (λ u. ‵ (fat q (tyStruct ν τs) (spotOf 𝓤 H E i .1) (spotOf 𝓤 H E i .2) (vstruct (setV vs k u))))) (sym e) (sub t k g (whole t))))))
 
   pub sets : K → {C : Calls 𝓤 H} {Λ : Loops 𝓤 H} {q : Post 𝓤 H} {i : ℕ} {rv : RValue} {rest : Body} {v : Val} → Rv K W Γ E rv v
       → (n : ℕ) → nth 𝓤 H A n Γ ≡ ‵ (froom (spotOf 𝓤 H E i .0) (spotOf 𝓤 H E i .1) (spotOf 𝓤 H E i .2)) → T (hasTy (spotOf 𝓤 H E i .0) v) × WT v

@@ -95,8 +95,8 @@ module _ {M : Type 1} (𝓤 : URA M) (H : Heap 𝓤) (A : Atoms 𝓤) (W : Given
               drop ! $ split ! $ move ! (7 ∷ []) $ drop ! $ move ! (1 ∷ []) $ peeks ! D1.the-row (Is D1.the-row) (shows 𝓤 H A D1.the-row) r (v ∷ []) (λ is.
               land ! (from ! (stop !)) (init ! 16 refl (LL.lawful D1.the-type D1′.the-laws 𝓤 H A W .typed r _ is .0)) $
               rewrite ! 16 (λ (u : Val). ‵ (fat fullShare D1′.mir l8 0 u)) (ap only (LL.tells D1.the-type D1′.the-laws r _ is)) refl $
-              assigns ! (reads-field ! 16 1 refl refl refl) (from ! (hop ! (look ! 9 refl) (stop !))) (store-raw ! 3 refl (LL.lawful D0.the-type D0′.the-laws 𝓤 H A W .typed (r .modem) _ (LL.owed D1.the-type D1′.the-laws r _ is .1 .0) .0)) $
-              sets ! (reads-field ! 16 0 refl refl refl) 8 refl (uint-lawful 𝓤 H A W w32 .typed (r .number) _ (LL.owed D1.the-type D1′.the-laws r _ is .0) .0) $
+              assigns ! (reads-field ! 16 1 (LL.val D0.the-type D0′.the-laws (r .modem)) refl refl refl refl) (from ! (hop ! (look ! 9 refl) (stop !))) (store-raw ! 3 refl (LL.lawful D0.the-type D0′.the-laws 𝓤 H A W .typed (r .modem) _ (LL.owed D1.the-type D1′.the-laws r _ is .1 .0) .0)) $
+              sets ! (reads-field ! 16 0 (vint w32 (r .number)) refl refl refl refl) 8 refl (uint-lawful 𝓤 H A W w32 .typed (r .number) _ (LL.owed D1.the-type D1′.the-laws r _ is .0) .0) $
               drop ! $ move ! (1 ∷ []) $ drop ! $
               owned ! D0.the-row (Is D0.the-row) (LL.makes D0.the-type D0′.the-plain 𝓤 H A) (r .modem) _ (LL.owed D1.the-type D1′.the-laws r _ is .1 .0) $
               move ! (2 ∷ 0 ∷ 3 ∷ 4 ∷ 5 ∷ []) $ closes ! tt D0.the-row (r .modem) (LL.val D0.the-type D0′.the-laws (r .modem) ∷ []) b o $

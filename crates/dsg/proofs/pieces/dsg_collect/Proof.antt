@@ -102,8 +102,8 @@ module _ {M : Type 1} (𝓤 : URA M) (H : Heap 𝓤) (A : Atoms 𝓤) (W : Given
               fsplit ! $ drop ! $ fsplit ! $ fsplit ! $ move ! (1 ∷ []) $ feqL ! (λ e0. move ! (1 ∷ []) $ fsplit ! $ fsplit ! $ move ! (1 ∷ []) $ feqL ! (λ e1. move ! (1 ∷ []) $ drop ! $ move ! (2 ∷ []) $ split ! $ move ! (1 ∷ []) $ peeks ! D2.the-row (Is D2.the-row) (shows 𝓤 H A D2.the-row) r (v ∷ []) (λ is.
               land ! (from ! (stop !)) (init ! 16 refl (LL.lawful D2.the-type D2′.the-laws 𝓤 H A W .typed r _ is .0)) $
               rewrite ! 16 (λ (u : Val). ‵ (fat fullShare D2′.mir l5 0 u)) (ap only (LL.tells D2.the-type D2′.the-laws r _ is)) refl $
-              assigns ! (reads-field ! 16 1 refl refl refl) (from ! (hop ! (look ! 12 refl) (stop !))) (store-raw ! 5 refl (LL.lawful D0.the-type D0′.the-laws 𝓤 H A W .typed (r .held) _ (LL.owed D2.the-type D2′.the-laws r _ is .1 .0) .0)) $
-              sets ! (reads-field ! 16 0 refl refl refl) 11 refl (LL.lawful D1.the-type D1′.the-laws 𝓤 H A W .typed (r .answer) _ (LL.owed D2.the-type D2′.the-laws r _ is .0) .0) $
+              assigns ! (reads-field ! 16 1 (LL.val D0.the-type D0′.the-laws (r .held)) refl refl refl refl) (from ! (hop ! (look ! 12 refl) (stop !))) (store-raw ! 5 refl (LL.lawful D0.the-type D0′.the-laws 𝓤 H A W .typed (r .held) _ (LL.owed D2.the-type D2′.the-laws r _ is .1 .0) .0)) $
+              sets ! (reads-field ! 16 0 (LL.val D1.the-type D1′.the-laws (r .answer)) refl refl refl refl) 11 refl (LL.lawful D1.the-type D1′.the-laws 𝓤 H A W .typed (r .answer) _ (LL.owed D2.the-type D2′.the-laws r _ is .0) .0) $
               drop ! $ move ! (3 ∷ []) $ drop ! $
               owned ! D0.the-row (Is D0.the-row) (LL.makes D0.the-type D0′.the-plain 𝓤 H A) (r .held) _ (LL.owed D2.the-type D2′.the-laws r _ is .1 .0) $
               move ! (4 ∷ 0 ∷ 5 ∷ 6 ∷ 7 ∷ []) $ closes ! tt D0.the-row (r .held) (LL.val D0.the-type D0′.the-laws (r .held) ∷ []) b o $

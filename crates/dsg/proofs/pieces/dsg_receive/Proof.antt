@@ -111,9 +111,9 @@ module _ {M : Type 1} (𝓤 : URA M) (H : Heap 𝓤) (A : Atoms 𝓤) (W : Given
               move ! (1 ∷ []) $ feqL ! (λ e1. move ! (1 ∷ []) $ drop ! $ move ! (2 ∷ []) $ split ! $ move ! (1 ∷ []) $ peeks ! D3.the-row (Is D3.the-row) (shows 𝓤 H A D3.the-row) r (v ∷ []) (λ is.
               land ! (from ! (stop !)) (init ! 22 refl (LL.lawful D3.the-type D3′.the-laws 𝓤 H A W .typed r _ is .0)) $
               rewrite ! 22 (λ (u : Val). ‵ (fat fullShare D3′.mir l6 0 u)) (ap only (LL.tells D3.the-type D3′.the-laws r _ is)) refl $
-              assigns ! (reads-field ! 22 1 refl refl refl) (from ! (hop ! (look ! 17 refl) (stop !))) (store-raw ! 10 refl (LL.lawful D0.the-type D0′.the-laws 𝓤 H A W .typed (r .held) _ (LL.owed D3.the-type D3′.the-laws r _ is .1 .0) .0)) $
-              assigns ! (reads-field ! 22 2 refl refl refl) (from ! (hop ! (look ! 18 refl) (stop !))) (store-raw ! 5 refl (LL.lawful D1.the-type D1′.the-laws 𝓤 H A W .typed (r .table) _ (LL.owed D3.the-type D3′.the-laws r _ is .1 .1 .0) .0)) $
-              sets ! (reads-field ! 22 0 refl refl refl) 16 refl (LL.lawful D2.the-type D2′.the-laws 𝓤 H A W .typed (r .answer) _ (LL.owed D3.the-type D3′.the-laws r _ is .0) .0) $
+              assigns ! (reads-field ! 22 1 (LL.val D0.the-type D0′.the-laws (r .held)) refl refl refl refl) (from ! (hop ! (look ! 17 refl) (stop !))) (store-raw ! 10 refl (LL.lawful D0.the-type D0′.the-laws 𝓤 H A W .typed (r .held) _ (LL.owed D3.the-type D3′.the-laws r _ is .1 .0) .0)) $
+              assigns ! (reads-field ! 22 2 (LL.val D1.the-type D1′.the-laws (r .table)) refl refl refl refl) (from ! (hop ! (look ! 18 refl) (stop !))) (store-raw ! 5 refl (LL.lawful D1.the-type D1′.the-laws 𝓤 H A W .typed (r .table) _ (LL.owed D3.the-type D3′.the-laws r _ is .1 .1 .0) .0)) $
+              sets ! (reads-field ! 22 0 (LL.val D2.the-type D2′.the-laws (r .answer)) refl refl refl refl) 16 refl (LL.lawful D2.the-type D2′.the-laws 𝓤 H A W .typed (r .answer) _ (LL.owed D3.the-type D3′.the-laws r _ is .0) .0) $
               drop ! $ move ! (8 ∷ []) $ drop ! $
               owned ! D0.the-row (Is D0.the-row) (LL.makes D0.the-type D0′.the-plain 𝓤 H A) (r .held) _ (LL.owed D3.the-type D3′.the-laws r _ is .1 .0) $
               move ! (9 ∷ 0 ∷ 10 ∷ 11 ∷ 12 ∷ []) $ closes ! tt D0.the-row (r .held) (LL.val D0.the-type D0′.the-laws (r .held) ∷ []) b0 o0 $

@@ -95,8 +95,8 @@ module _ {M : Type 1} (𝓤 : URA M) (H : Heap 𝓤) (A : Atoms 𝓤) (W : Given
               drop ! $ split ! $ move ! (1 ∷ []) $ peeks ! D2.the-row (Is D2.the-row) (shows 𝓤 H A D2.the-row) r (v ∷ []) (λ is.
               land ! (from ! (stop !)) (init ! 12 refl (LL.lawful D2.the-type D2′.the-laws 𝓤 H A W .typed r _ is .0)) $
               rewrite ! 12 (λ (u : Val). ‵ (fat fullShare D2′.mir l3 0 u)) (ap only (LL.tells D2.the-type D2′.the-laws r _ is)) refl $
-              assigns ! (reads-field ! 12 1 refl refl refl) (from ! (hop ! (look ! 10 refl) (stop !))) (store-raw ! 3 refl (LL.lawful D0.the-type D0′.the-laws 𝓤 H A W .typed (r .table) _ (LL.owed D2.the-type D2′.the-laws r _ is .1 .0) .0)) $
-              sets ! (reads-field ! 12 0 refl refl refl) 9 refl (LL.lawful D1.the-type D1′.the-laws 𝓤 H A W .typed (r .answer) _ (LL.owed D2.the-type D2′.the-laws r _ is .0) .0) $
+              assigns ! (reads-field ! 12 1 (LL.val D0.the-type D0′.the-laws (r .table)) refl refl refl refl) (from ! (hop ! (look ! 10 refl) (stop !))) (store-raw ! 3 refl (LL.lawful D0.the-type D0′.the-laws 𝓤 H A W .typed (r .table) _ (LL.owed D2.the-type D2′.the-laws r _ is .1 .0) .0)) $
+              sets ! (reads-field ! 12 0 (LL.val D1.the-type D1′.the-laws (r .answer)) refl refl refl refl) 9 refl (LL.lawful D1.the-type D1′.the-laws 𝓤 H A W .typed (r .answer) _ (LL.owed D2.the-type D2′.the-laws r _ is .0) .0) $
               drop ! $ move ! (1 ∷ []) $ drop ! $
               owned ! D0.the-row (Is D0.the-row) (LL.makes D0.the-type D0′.the-plain 𝓤 H A) (r .table) _ (LL.owed D2.the-type D2′.the-laws r _ is .1 .0) $
               move ! (2 ∷ 0 ∷ 3 ∷ 4 ∷ 5 ∷ []) $ closes ! tt D0.the-row (r .table) (LL.val D0.the-type D0′.the-laws (r .table) ∷ []) b o $
