@@ -4,12 +4,14 @@
 -- that cut the parts.
 --
 --   Proof/Steps.antt     the steps that are taken more than once, and the contract of the functions that cut a part
---   Proof/Start.antt     the arguments, and what `collect` and `share` are handed
+--   Proof/Start.antt     what it is called with
+--   Proof/Callees.antt   what is known of the functions that it calls, and what `collect` and `share` are handed
 --   Proof/Walk.antt      the code, statement by statement
 --   Proof/Exit.antt      what is had at the return gives the contract
 -- Trusts: nothing.
 mod Steps
 mod Start
+mod Callees
 mod Exit
 mod Walk
 use mathlib.Core.Path.{refl}
@@ -23,7 +25,7 @@ use prog.Wp.{Heap, Calls, Loops, WpFn, Tables}
 use ghost.Atoms.{Atoms}
 use contract.Monad.{Fun}
 use contract.Running.{givenOf, tables, tablesOf}
-use types.Kit.{Given, join}
+use types.Kit.{Given}
 use sound.WpLaws.{FmC, fmOf, WpFn-mono}
 use denote.Builtin.{u8}
 use denote.Slice.{slice-vals, mut-slice-tells, shr-slice-tells}
@@ -55,7 +57,8 @@ use Rattle.lending.proofs.collect_lent as top
 use Rattle.lending.proofs.collect_lent.Statement as stated
 use Rattle.lending.proofs.collect_lent.Code as code
 use Rattle.lending.proofs.collect_lent.Proof.Steps.{Part, ownPart, joinedPart, restPart}
-use Rattle.lending.proofs.collect_lent.Proof.Start.{U8, stayed, vals, Work, Share′, Known}
+use Rattle.lending.proofs.collect_lent.Proof.Start.{U8, stayed}
+use Rattle.lending.proofs.collect_lent.Proof.Callees.{Work, Share′, Known}
 use Rattle.lending.proofs.collect_lent.Proof.Walk.{walk}
 
 module _ {M : Type 1} (𝓤 : URA M) (H : Heap 𝓤) (A : Atoms 𝓤) (W : Given 𝓤 H A) (mem : Memory → SProp 𝓤) (run : Routine → Fun 𝓤) where

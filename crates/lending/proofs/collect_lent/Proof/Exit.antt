@@ -29,7 +29,11 @@ use Rattle.lending.proofs.Lent as T
 use Rattle.lending.proofs.Lent.Laws as T′
 use Rattle.lending.proofs.collect_lent as top
 use Rattle.lending.proofs.collect_lent.Proof.Steps.{Of-outcome, Of-bytes, token, ownPart, joinedPart, restPart}
-use Rattle.lending.proofs.collect_lent.Proof.Start.{Entry, stayed, lives, after, Done, here, Post}
+use Rattle.lending.proofs.collect_lent.Proof.Start.{Entry, stayed, lives, after, Done}
+use Rattle.lending.proofs.collect_lent.Proof.Callees.{here, Post}
+
+abbrev pub made : Outcome → RefT (List ℕ) → RefT (List ℕ) → RefT (List ℕ) → Lent
+made r u x y = record { outcome = r; own = u; joined = x; rest = y }
 
 module _ (i : Entry) where
   -- the result's two lifetimes
@@ -39,10 +43,7 @@ module _ (i : Entry) where
   abbrev pub β : NamedLft
   β = namedLft 3 1 tt (lives i)
 
-  -- the result and its machine value
-  abbrev pub made : Outcome → RefT (List ℕ) → RefT (List ℕ) → RefT (List ℕ) → Lent
-  made r u x y = record { outcome = r; own = u; joined = x; rest = y }
-
+  -- the result's machine value
   abbrev pub made-val : Lent → Val
   made-val = LL.val (T.the-type α β) (T′.the-laws α β)
 
@@ -54,12 +55,13 @@ module _ {M : Type 1} (𝓤 : URA M) (H : Heap 𝓤) (A : Atoms 𝓤) (W : Given
 
   pub exits : (r : Outcome) (u x y : RefT (List ℕ)) (zs₀ zs : List ℕ) → Done i r zs₀ zs
       → now u ≡ ownPart r (now (i .body)) → now x ≡ joinedPart r zs → now y ≡ restPart r zs → length zs₀ ≡ length (now (i .slots))
-      → ent 𝓤 (⋆ 𝓤 H A (left r u x y zs₀)) (Post 𝓤 H A mem run i (made-val i (made i r u x y)))
+      → ent 𝓤 (⋆ 𝓤 H A (left r u x y zs₀)) (Post 𝓤 H A mem run i (made-val i (made r u x y)))
   exits r u x y zs₀ zs e e-own e-joined e-rest l =
-      let v = made i r u x y in
+      let v = made r u x y in
       qed W (left r u x y zs₀) ∵
-      suffices ! _ (ends-at 𝓤 H A top.ended stayed (top.clauses 𝓤 H A mem run) W (here 𝓤 H A mem run i) (made-val i v) v (tt, (zs₀, (tt, (tt, tt)))) (tt, (l, (tt, (tt, tt))))) $
-      says ! (step-lent (i .held) (now (i .slots)) (now (i .join)) (now (i .body)) (after i r zs₀ zs) (now u) (now x) (now y) e e-own e-joined e-rest) $
+      suffices ! _ (ends-at 𝓤 H A top.ended stayed (top.clauses 𝓤 H A mem run) W (here 𝓤 H A mem run i) (made-val i v) v
+      (tt, (zs₀, (tt, (tt, tt)))) (tt, (l, (tt, (tt, tt))))) $
+      says ! (step-lent (i .held) (now (i .slots)) (now (i .join)) (now (i .body)) (after r zs₀ zs) (now u) (now x) (now y) e e-own e-joined e-rest) $
       move ! (1 ∷ []) $ split ! $ move ! (1 ∷ []) $ drop ! $ move ! (0 ∷ 2 ∷ []) $ join ! $ move ! (1 ∷ 0 ∷ []) $ join ! $ frame ! $
       -- [the last list; the outcome's; the three parts']
       nothing ! $ nothing ! $ nothing ! $ fjoin ! $ move ! (1 ∷ 0 ∷ []) $ fjoin ! $ move ! (1 ∷ 0 ∷ []) $ fjoin ! $ nothing ! $ fjoin ! $ frame ! $
