@@ -10,7 +10,6 @@ use mathlib.Core.Bool.{Bool, true, false, cond, _&&_, false≢true}
 use mathlib.Core.Logic.{_⊎_, inl, inr}
 use native.Mathlib.Omega.{arith}
 use lib.Dec.{eqb}
-use borrow.Author.Tests.{eqb-true}
 use Rattle.modem_record.specs.declared.Modem.{Modem}
 use Rattle.modem_step.specs.declared.Stepped.{Stepped}
 use Rattle.modem_rows.specs.declared.Event.{Event}
@@ -18,10 +17,11 @@ use Rattle.modem_rows.specs.declared.Event.the-variants.{Start, Locked, ScanEmp
 use Rattle.modem_record.specs.States.{isAt, isSending, isPermitted, off, receiveOf, ucidOf}
 use Rattle.modem_record.specs.Record.{isBroken, wellKept, countsIdle, allowed, defaulted, valued}
 use Rattle.modem_rows.specs.Events.{startRow, heardRow, enableRow, disableRow, tableEvent, tickEvent, enableEvent, stopped, disableEvent, eventOn}
-use Rattle.modem_step.specs.Step.{isBack, isStart, aged, steppedModem, nextModem}
+use Rattle.modem_step.specs.Step.{isBack, isStart, aged, nextModem}
 use Rattle.modem_step.proofs.Laws.{steppedModem-start, steppedModem-ignored, steppedModem-back, steppedModem-taken}
 use Rattle.modem.proofs.LawsKept.{Kept, countsIdle→Kept, Kept→wellKept, moved-kept, aged-kept}
-use Rattle.modem.proofs.LawsRows.{Fits, either, lockedRow-kept, emptyRow-kept, tableRow-kept, heardRow-kept, retryRow-kept, upRow-kept, sending-facts, lostRow-kept, restRow-kept, huntRow-kept, wakeRow-kept}
+use Rattle.modem.proofs.LawsRows.{Fits, either, row-at, lockedRow-kept, emptyRow-kept, tableRow-kept, heardRow-kept, retryRow-kept, upRow-kept}
+use Rattle.modem.proofs.LawsRows.{sending-facts, lostRow-kept, restRow-kept, huntRow-kept, wakeRow-kept}
 
 abbrev pub FitsEvent : Event → Type 0
 FitsEvent (Start p) = Unit {0}
@@ -47,7 +47,18 @@ nonzero value default d = go (eqb value 0) refl
 
 valued-kept : (m : Modem) (a b c d : ℕ) → Kept m → Kept (valued m a b c d)
 valued-kept m a b c d k =
-    record { state = k .state; permission = k .permission; receive = k .receive; retry = k .retry; ucid = k .ucid; sends = k .sends; first = nonzero a 2 refl; second = nonzero b 600 refl; receive-fits = k .receive-fits; retry-fits = k .retry-fits }
+    record {
+      state = k .state;
+      permission = k .permission;
+      receive = k .receive;
+      retry = k .retry;
+      ucid = k .ucid;
+      sends = k .sends;
+      first = nonzero a 2 refl;
+      second = nonzero b 600 refl;
+      receive-fits = k .receive-fits;
+      retry-fits = k .retry-fits;
+    }
 
 defaulted-le : (value default : ℕ) → value ≤ 65535 → default ≤ 65535 → defaulted value default ≤ 65535
 defaulted-le value default h g = go (eqb value 0)
@@ -58,7 +69,18 @@ defaulted-le value default h g = go (eqb value 0)
 
 enabled-kept : (m : Modem) → Kept m → Kept (allowed m 1)
 enabled-kept m k =
-    record { state = k .state; permission = omega arith; receive = k .receive; retry = more (isAt 3 m) (isPermitted m) (k .retry); ucid = k .ucid; sends = least (isSending m); first = k .first; second = k .second; receive-fits = k .receive-fits; retry-fits = k .retry-fits }
+    record {
+      state = k .state;
+      permission = omega arith;
+      receive = k .receive;
+      retry = more (isAt 3 m) (isPermitted m) (k .retry);
+      ucid = k .ucid;
+      sends = least (isSending m);
+      first = k .first;
+      second = k .second;
+      receive-fits = k .receive-fits;
+      retry-fits = k .retry-fits;
+    }
   where
     more : (b p : Bool) → m .retryon ≤ cond (b && p) 1 0 → m .retryon ≤ cond (b && true) 1 0
     more true true h = h
@@ -72,15 +94,39 @@ enabled-kept m k =
 enableEvent-kept : (m : Modem) → Kept m → Kept (enableEvent m)
 unfolding enableEvent enableRow
 enableEvent-kept m k =
-    let n = allowed m 1 in let kn = enabled-kept m k in
-    either Kept (isAt 3 n) _ n (λ e. let z = eqb-true (m .state) 3 e in moved-kept n kn 4 (ucidOf n) (receiveOf n) off (omega arith) (rw z at k .receive) (omega arith) (rw z at k .ucid) (omega arith) (k .receive-fits) refl) (λ e. kn)
+    let n = allowed m 1 in
+    let kn = enabled-kept m k in
+    row-at n n kn 3 _ (λ z.
+    moved-kept n kn 4 (ucidOf n) (receiveOf n) off (omega arith) (rw z at k .receive) (omega arith) (rw z at k .ucid) (omega arith) (k .receive-fits) refl)
 
 disableEvent-kept : (m : Modem) → Kept m → Fits m → Kept (disableEvent m)
 unfolding disableEvent disableRow
 disableEvent-kept m k f =
     either Kept (isSending m) _ (stopped m)
-    (λ e. record { state = omega arith; permission = omega arith; receive = sending-facts m k f m k e .0; retry = omega arith; ucid = refl; sends = omega arith; first = k .first; second = k .second; receive-fits = k .receive-fits; retry-fits = refl })
-    (λ e. record { state = k .state; permission = omega arith; receive = k .receive; retry = omega arith; ucid = k .ucid; sends = rw e (omega arith); first = k .first; second = k .second; receive-fits = k .receive-fits; retry-fits = refl })
+    (λ e. record {
+      state = omega arith;
+      permission = omega arith;
+      receive = sending-facts m k f m k e .0;
+      retry = omega arith;
+      ucid = refl;
+      sends = omega arith;
+      first = k .first;
+      second = k .second;
+      receive-fits = k .receive-fits;
+      retry-fits = refl;
+    })
+    (λ e. record {
+      state = k .state;
+      permission = omega arith;
+      receive = k .receive;
+      retry = omega arith;
+      ucid = k .ucid;
+      sends = rw e (omega arith);
+      first = k .first;
+      second = k .second;
+      receive-fits = k .receive-fits;
+      retry-fits = refl;
+    })
 
 pub eventOn-kept : (ev : Event) → isStart ev ≡ false → FitsEvent ev → (m : Modem) → Kept m → Fits m → Kept (eventOn ev m)
 unfolding eventOn isStart tableEvent tickEvent
@@ -112,8 +158,9 @@ other-kept m now ev hs f g = go (countsIdle m) (isBack now (m .last)) refl refl
     go true b hi hb = inr (ap (λ (s : Stepped). s .modem) (steppedModem-ignored m now ev hs hi))
     go false true hi hb = inr (ap (λ (s : Stepped). s .modem) (steppedModem-back m now ev hs hi hb))
     go false false hi hb =
-        inl (subst (λ (s : Stepped). wellKept (s .modem) ≡ true) (sym (steppedModem-taken m now ev hs hi hb))
-        (Kept→wellKept (eventOn ev (aged m now)) (eventOn-kept ev hs g (aged m now) (aged-kept m now (countsIdle→Kept m hi)) (record { one = f .one; two = f .two; three = f .three; four = f .four }))))
+        let fits : Fits (aged m now) = record { one = f .one; two = f .two; three = f .three; four = f .four } in
+        let kept = eventOn-kept ev hs g (aged m now) (aged-kept m now (countsIdle→Kept m hi)) fits in
+        inl (subst (λ (s : Stepped). wellKept (s .modem) ≡ true) (sym (steppedModem-taken m now ev hs hi hb)) (Kept→wellKept (eventOn ev (aged m now)) kept))
 
 pub steppedModem-kept : (m : Modem) (now : ℕ) (ev : Event) → Fits m → FitsEvent ev → (wellKept (nextModem m now ev) ≡ true) ⊎ (nextModem m now ev ≡ m)
 unfolding isStart

@@ -35,7 +35,8 @@ or4 false true c d h = absurd (true≢false h)
 or4 false false true d h = absurd (true≢false h)
 or4 false false false d h = (refl, refl, refl, h)
 
-or7 : (a b c d e f g : Bool) → a || b || c || d || e || f || g ≡ false → (a ≡ false) × (b ≡ false) × (c ≡ false) × (d ≡ false) × (e ≡ false) × (f ≡ false) × (g ≡ false)
+or7 : (a b c d e f g : Bool) → a || b || c || d || e || f || g ≡ false
+    → (a ≡ false) × (b ≡ false) × (c ≡ false) × (d ≡ false) × (e ≡ false) × (f ≡ false) × (g ≡ false)
 or7 true b c d e f g h = absurd (true≢false h)
 or7 false true c d e f g h = absurd (true≢false h)
 or7 false false true d e f g h = absurd (true≢false h)
@@ -44,9 +45,21 @@ or7 false false false d e f g h = let r = or4 d e f g h in (refl, refl, refl, r 
 isBroken→Kept : (m : Modem) → isBroken m ≡ false → Kept m
 unfolding isBroken
 isBroken→Kept m h =
-    let q = or7 (ltb 6 (m .state)) (ltb 1 (m .permission)) (not (eqb (m .receiveon) (receiveMark m))) (ltb (retryMark m) (m .retryon)) (not (eqb (m .hasucid) (ucidMark m))) (ltb (m .permission) (leastPermission m)) (isSpoilt m) h in
+    let q = or7 (ltb 6 (m .state)) (ltb 1 (m .permission)) (not (eqb (m .receiveon) (receiveMark m))) (ltb (retryMark m) (m .retryon))
+    (not (eqb (m .hasucid) (ucidMark m))) (ltb (m .permission) (leastPermission m)) (isSpoilt m) h in
     let s = or4 (eqb (m .tdsg1) 0) (eqb (m .tdsg2) 0) (isOver (receiveOf m)) (isOver (retryOf m)) (q .6) in
-    record { state = ltb-false 6 (m .state) (q .0); permission = ltb-false 1 (m .permission) (q .1); receive = eqb-true (m .receiveon) (receiveMark m) (not-false _ (q .2)); retry = ltb-false (retryMark m) (m .retryon) (q .3); ucid = eqb-true (m .hasucid) (ucidMark m) (not-false _ (q .4)); sends = ltb-false (m .permission) (leastPermission m) (q .5); first = s .0; second = s .1; receive-fits = s .2; retry-fits = s .3 }
+    record {
+      state = ltb-false 6 (m .state) (q .0);
+      permission = ltb-false 1 (m .permission) (q .1);
+      receive = eqb-true (m .receiveon) (receiveMark m) (not-false _ (q .2));
+      retry = ltb-false (retryMark m) (m .retryon) (q .3);
+      ucid = eqb-true (m .hasucid) (ucidMark m) (not-false _ (q .4));
+      sends = ltb-false (m .permission) (leastPermission m) (q .5);
+      first = s .0;
+      second = s .1;
+      receive-fits = s .2;
+      retry-fits = s .3;
+    }
 
 pub wellKept→Kept : (m : Modem) → wellKept m ≡ true → Kept m
 unfolding wellKept
@@ -63,7 +76,13 @@ countsIdle→Kept m h = isBroken→Kept m (go (isAt 0 m) (isBroken m) h)
 pub Kept→wellKept : (m : Modem) → Kept m → wellKept m ≡ true
 unfolding wellKept isBroken
 Kept→wellKept m k =
-    rw (le-ltb 6 (m .state) (k .state), le-ltb 1 (m .permission) (k .permission), eq-eqb (m .receiveon) (receiveMark m) (k .receive), le-ltb (retryMark m) (m .retryon) (k .retry), eq-eqb (m .hasucid) (ucidMark m) (k .ucid), le-ltb (m .permission) (leastPermission m) (k .sends), k .first, k .second, k .receive-fits, k .retry-fits)
+    let state = le-ltb 6 (m .state) (k .state) in
+    let permission = le-ltb 1 (m .permission) (k .permission) in
+    let receive = eq-eqb (m .receiveon) (receiveMark m) (k .receive) in
+    let retry = le-ltb (retryMark m) (m .retryon) (k .retry) in
+    let ucid = eq-eqb (m .hasucid) (ucidMark m) (k .ucid) in
+    let sends = le-ltb (m .permission) (leastPermission m) (k .sends) in
+    rw (state, permission, receive, retry, ucid, sends, k .first, k .second, k .receive-fits, k .retry-fits)
 
 module _ (m : Modem) (k : Kept m) (s : ℕ) (u r t : Marked) where
   pub moved-kept : s ≤ 6 → r .mark ≡ receiveMark (moved m s u r t) → t .mark ≤ retryMark (moved m s u r t) → u .mark ≡ ucidMark (moved m s u r t)
@@ -89,7 +108,22 @@ isOver-le mark v w h = go (not (eqb mark 0))
     go true k = le-ltb 65535000 w (omega (arith, ltb-false 65535000 v k))
     go false k = refl
 
+-- a timer that fits still fits when it has fallen
+fallen-fits : (mark value by : ℕ) → isOver (record { mark = mark; value = value }) ≡ false → isOver (record { mark = mark; value = fallen mark value by }) ≡ false
+fallen-fits mark value by = isOver-le mark value (fallen mark value by) (fallen-le mark value by)
+
 pub aged-kept : (m : Modem) (now : ℕ) → Kept m → Kept (aged m now)
 aged-kept m now k =
     let by = clockStep now (m .last) in
-    record { state = k .state; permission = k .permission; receive = k .receive; retry = k .retry; ucid = k .ucid; sends = k .sends; first = k .first; second = k .second; receive-fits = isOver-le (m .receiveon) (m .receive) (fallen (m .receiveon) (m .receive) by) (fallen-le (m .receiveon) (m .receive) by) (k .receive-fits); retry-fits = isOver-le (m .retryon) (m .retry) (fallen (m .retryon) (m .retry) by) (fallen-le (m .retryon) (m .retry) by) (k .retry-fits) }
+    record {
+      state = k .state;
+      permission = k .permission;
+      receive = k .receive;
+      retry = k .retry;
+      ucid = k .ucid;
+      sends = k .sends;
+      first = k .first;
+      second = k .second;
+      receive-fits = fallen-fits (m .receiveon) (m .receive) by (k .receive-fits);
+      retry-fits = fallen-fits (m .retryon) (m .retry) by (k .retry-fits);
+    }

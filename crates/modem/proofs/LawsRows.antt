@@ -2,6 +2,7 @@
 --
 --   Fits m         timer values are 16 bits wide, as the record's type says
 --   either         a claim of a test's two arms
+--   row, row-at    a row where it is taken, and the record as it was where it is not
 --   ..Row-kept     one for each row, in the table's order but for the two that load Tdsg2
 -- Trusts: nothing.
 use Prim.Native.Nat.{ℕ, _≤_}
@@ -12,7 +13,7 @@ use native.Mathlib.Omega.{arith}
 use borrow.Author.Tests.{eqb-true, eq-eqb, ne-eqb}
 use Rattle.modem_record.specs.declared.Modem.{Modem}
 use Rattle.modem_record.specs.States.{isAt, isForwarding, isSending, isFour, isPermitted, isAtZero, off, none, known, loaded, receiveOf, retryOf, ucidOf}
-use Rattle.modem_record.specs.Record.{receiveMark, moved}
+use Rattle.modem_record.specs.Record.{receiveMark, isOver, moved}
 use Rattle.modem_rows.specs.Events.{lockedRow, emptyRow, tableRow, heardRow, retryRow, upRow, lostRow, restRow, huntRow, wakeRow}
 use Rattle.modem_step.proofs.Laws.{and-left, and-right}
 use Rattle.modem.proofs.LawsKept.{Kept, moved-kept, loaded-fits}
@@ -51,27 +52,41 @@ forwarding-from m h = go (or-case (isAt 3 m || isAt 4 m) (isAt 5 m) h)
     go (inl e) = low (or-case (isAt 3 m) (isAt 4 m) e)
     go (inr e) = omega (arith, eqb-true (m .state) 5 e)
 
+module _ (m : Modem) (other : Modem) (ko : Kept other) where
+  -- a row that is taken where b holds, and one that is taken in the state n
+  row : (b : Bool) (x : Modem) → (b ≡ true → Kept x) → Kept (cond b x other)
+  row b x taken = either Kept b x other taken (λ e. ko)
+
+  pub row-at : (n : ℕ) (x : Modem) → (m .state ≡ n → Kept x) → Kept (cond (isAt n m) x other)
+  row-at n x taken = row (isAt n m) x (λ e. taken (eqb-true (m .state) n e))
+
 module _ (m : Modem) (k : Kept m) (f : Fits m) (other : Modem) (ko : Kept other) where
   pub lockedRow-kept : Kept (lockedRow m other)
   unfolding lockedRow
-  lockedRow-kept = either Kept (isAt 1 m) _ other (λ e. let z = eqb-true (m .state) 1 e in moved-kept m k 2 (ucidOf m) (loaded (m .tdsg1)) (retryOf m) (omega arith) refl (rw z at k .retry) (rw z at k .ucid) (omega arith) (loaded-fits (m .tdsg1) (f .one)) (k .retry-fits)) (λ e. ko)
+  lockedRow-kept = row-at m other ko 1 _ (λ z.
+      moved-kept m k 2 (ucidOf m) (loaded (m .tdsg1)) (retryOf m)
+      (omega arith) refl (rw z at k .retry) (rw z at k .ucid) (omega arith) (loaded-fits (m .tdsg1) (f .one)) (k .retry-fits))
 
   pub emptyRow-kept : Kept (emptyRow m other)
   unfolding emptyRow
-  emptyRow-kept = either Kept (isAt 1 m) _ other (λ e. let z = eqb-true (m .state) 1 e in moved-kept m k 6 (ucidOf m) (loaded (m .tdsg4)) (retryOf m) (omega arith) refl (rw z at k .retry) (rw z at k .ucid) (omega arith) (loaded-fits (m .tdsg4) (f .four)) (k .retry-fits)) (λ e. ko)
+  emptyRow-kept = row-at m other ko 1 _ (λ z.
+      moved-kept m k 6 (ucidOf m) (loaded (m .tdsg4)) (retryOf m)
+      (omega arith) refl (rw z at k .retry) (rw z at k .ucid) (omega arith) (loaded-fits (m .tdsg4) (f .four)) (k .retry-fits))
 
   pub retryRow-kept : Kept (retryRow m other)
   unfolding retryRow
-  retryRow-kept =
-      either Kept (isAt 3 m && isAtZero (retryOf m) && isPermitted m) _ other
-      (λ e. let z = eqb-true (m .state) 3 (and-left (isAt 3 m) (isAtZero (retryOf m)) (and-left (isAt 3 m && isAtZero (retryOf m)) (isPermitted m) e)) in
-      let p = eqb-true (m .permission) 1 (and-right (isAt 3 m && isAtZero (retryOf m)) (isPermitted m) e) in
-      moved-kept m k 4 (ucidOf m) (receiveOf m) off (omega arith) (rw z at k .receive) (omega arith) (rw z at k .ucid) (omega arith) (k .receive-fits) refl)
-      (λ e. ko)
+  retryRow-kept = row m other ko (isAt 3 m && isAtZero (retryOf m) && isPermitted m) _ (λ e.
+      let over = isAt 3 m && isAtZero (retryOf m) in
+      let z = eqb-true (m .state) 3 (and-left (isAt 3 m) (isAtZero (retryOf m)) (and-left over (isPermitted m) e)) in
+      let p = eqb-true (m .permission) 1 (and-right over (isPermitted m) e) in
+      moved-kept m k 4 (ucidOf m) (receiveOf m) off
+      (omega arith) (rw z at k .receive) (omega arith) (rw z at k .ucid) (omega arith) (k .receive-fits) refl)
 
   pub upRow-kept : (u : ℕ) → Kept (upRow u m other)
   unfolding upRow
-  upRow-kept u = either Kept (isAt 4 m) _ other (λ e. let z = eqb-true (m .state) 4 e in moved-kept m k 5 (known u) (receiveOf m) (retryOf m) (omega arith) (rw z at k .receive) (rw z at k .retry) refl (rw z at k .sends) (k .receive-fits) (k .retry-fits)) (λ e. ko)
+  upRow-kept u = row-at m other ko 4 _ (λ z.
+      moved-kept m k 5 (known u) (receiveOf m) (retryOf m)
+      (omega arith) (rw z at k .receive) (rw z at k .retry) refl (rw z at k .sends) (k .receive-fits) (k .retry-fits))
 
   -- a record that transmits has the permission, and its receive timer runs
   pub sending-facts : isSending m ≡ true → (m .receiveon ≡ 1) × (1 ≤ m .permission)
@@ -83,37 +98,48 @@ module _ (m : Modem) (k : Kept m) (f : Fits m) (other : Modem) (ko : Kept other)
 
   pub lostRow-kept : Kept (lostRow m other)
   unfolding lostRow
-  lostRow-kept =
-      either Kept (isSending m) _ other
-      (λ e. let q = sending-facts e in
+  lostRow-kept = row m other ko (isSending m) _ (λ e.
+      let q = sending-facts e in
       let p : m .permission ≡ 1 = omega (arith, q .1, k .permission) in
-      moved-kept m k 3 none (receiveOf m) (loaded (m .tdsg3)) (omega arith) (q .0) (rw (eq-eqb (m .permission) 1 p) (omega arith)) refl (omega arith) (k .receive-fits) (loaded-fits (m .tdsg3) (f .three)))
-      (λ e. ko)
+      moved-kept m k 3 none (receiveOf m) (loaded (m .tdsg3))
+      (omega arith) (q .0) (rw (eq-eqb (m .permission) 1 p) (omega arith)) refl (omega arith) (k .receive-fits) (loaded-fits (m .tdsg3) (f .three)))
 
   pub restRow-kept : Kept (restRow m other)
   unfolding restRow
-  restRow-kept = either Kept (isFour m && isAtZero (receiveOf m)) _ other (λ e. moved-kept m k 6 none (loaded (m .tdsg4)) off (omega arith) refl (omega arith) refl (omega arith) (loaded-fits (m .tdsg4) (f .four)) refl) (λ e. ko)
+  restRow-kept = row m other ko (isFour m && isAtZero (receiveOf m)) _ (λ e.
+      moved-kept m k 6 none (loaded (m .tdsg4)) off (omega arith) refl (omega arith) refl (omega arith) (loaded-fits (m .tdsg4) (f .four)) refl)
 
   pub huntRow-kept : Kept (huntRow m other)
   unfolding huntRow
-  huntRow-kept = either Kept (isFour m) _ other (λ e. moved-kept m k 1 none off off (omega arith) refl (omega arith) refl (omega arith) refl refl) (λ e. ko)
+  huntRow-kept = row m other ko (isFour m) _ (λ e. moved-kept m k 1 none off off (omega arith) refl (omega arith) refl (omega arith) refl refl)
 
   pub wakeRow-kept : Kept (wakeRow m other)
   unfolding wakeRow
-  wakeRow-kept = either Kept (isAt 6 m && isAtZero (receiveOf m)) _ other (λ e. let z = eqb-true (m .state) 6 (and-left (isAt 6 m) (isAtZero (receiveOf m)) e) in moved-kept m k 1 (ucidOf m) off (retryOf m) (omega arith) refl (rw z at k .retry) (rw z at k .ucid) (omega arith) refl (k .retry-fits)) (λ e. ko)
+  wakeRow-kept = row m other ko (isAt 6 m && isAtZero (receiveOf m)) _ (λ e.
+      let z = eqb-true (m .state) 6 (and-left (isAt 6 m) (isAtZero (receiveOf m)) e) in
+      moved-kept m k 1 (ucidOf m) off (retryOf m) (omega arith) refl (rw z at k .retry) (rw z at k .ucid) (omega arith) refl (k .retry-fits))
 
 module _ (m : Modem) (k : Kept m) (two : m .tdsg2 ≤ 65535) (other : Modem) (ko : Kept other) where
   pub tableRow-kept : Kept (tableRow m other)
   unfolding tableRow
-  tableRow-kept = either Kept (isAt 2 m) _ other (λ e. go (isPermitted m) refl (eqb-true (m .state) 2 e)) (λ e. ko)
+  tableRow-kept = row-at m other ko 2 _ (go (isPermitted m) refl)
     where
+      timed : isOver (loaded (m .tdsg2)) ≡ false
+      timed = loaded-fits (m .tdsg2) two
+
       go : (b : Bool) → isPermitted m ≡ b → m .state ≡ 2 → Kept (moved m (cond b 4 3) (ucidOf m) (loaded (m .tdsg2)) (retryOf m))
-      go true p z = moved-kept m k 4 (ucidOf m) (loaded (m .tdsg2)) (retryOf m) (omega arith) refl (rw z at k .retry) (rw z at k .ucid) (omega (arith, eqb-true (m .permission) 1 p)) (loaded-fits (m .tdsg2) two) (k .retry-fits)
-      go false p z = moved-kept m k 3 (ucidOf m) (loaded (m .tdsg2)) (retryOf m) (omega arith) refl (rw p (rw z at k .retry)) (rw z at k .ucid) (omega arith) (loaded-fits (m .tdsg2) two) (k .retry-fits)
+      go true p z =
+          moved-kept m k 4 (ucidOf m) (loaded (m .tdsg2)) (retryOf m)
+          (omega arith) refl (rw z at k .retry) (rw z at k .ucid) (omega (arith, eqb-true (m .permission) 1 p)) timed (k .retry-fits)
+      go false p z =
+          moved-kept m k 3 (ucidOf m) (loaded (m .tdsg2)) (retryOf m)
+          (omega arith) refl (rw p (rw z at k .retry)) (rw z at k .ucid) (omega arith) timed (k .retry-fits)
 
   pub heardRow-kept : Kept (heardRow m other)
   unfolding heardRow
-  heardRow-kept = either Kept (isForwarding m) _ other (λ e. moved-kept m k (m .state) (ucidOf m) (loaded (m .tdsg2)) (retryOf m) (k .state) (due (forwarding-from m e)) (k .retry) (k .ucid) (k .sends) (loaded-fits (m .tdsg2) two) (k .retry-fits)) (λ e. ko)
+  heardRow-kept = row m other ko (isForwarding m) _ (λ e.
+      moved-kept m k (m .state) (ucidOf m) (loaded (m .tdsg2)) (retryOf m)
+      (k .state) (due (forwarding-from m e)) (k .retry) (k .ucid) (k .sends) (loaded-fits (m .tdsg2) two) (k .retry-fits))
     where
       due : 3 ≤ m .state → 1 ≡ receiveMark m
       due h = rw (ne-eqb (m .state) 0 (λ q. omega arith), ne-eqb (m .state) 1 (λ q. omega arith))
