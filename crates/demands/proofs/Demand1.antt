@@ -10,7 +10,7 @@
 --
 -- A body that goes all the way is in Demand1Receive; clients, frames and events in Demand1Frames; the numbers as a C host has them in Demand1C.
 -- That every entry takes any input is seen in its signature: no public function has a `requires` (docs/CONTRACTS.md); that it ends is part of
--- `met`. The theorems are about the definitions, which Demand2, Parts and Exported say are what the entries give.
+-- `met`. The theorems are about the definitions, which Demand2, Demand2Frames, Parts, PartsPieces and Exported say are what the entries give.
 -- Trusts: nothing.
 use Prim.Native.Nat.{ℕ, _*_, _-_, _≤_, _<_}
 use mathlib.Core.Path.{_≡_, refl, ap}
