@@ -78,6 +78,7 @@ read_table-gives κs a x s h = h
 pub receive-met : {M : Type 1} → receive′.statement M
 receive-met = receive″.met
 
-pub receive-gives : (κs : Lfts 3) → Gives {L = Had} (λ x s. record { report = told (x .report); held = x .held; table = x .table; slots = now (s .1 .1 .0); join = now (s .1 .1 .1 .0) }) (receive.Post κs)
+pub receive-gives : (κs : Lfts 3) → Gives {L = Had}
+    (λ x s. record { report = told (x .report); held = x .held; table = x .table; slots = now (s .1 .1 .0); join = now (s .1 .1 .1 .0) }) (receive.Post κs)
     (λ a. receiveStep (a .0) (a .1 .0) (now (a .1 .1 .0)) (now (a .1 .1 .1 .0)) (now (a .1 .1 .1 .1 .0)))
 receive-gives κs a x s h = h

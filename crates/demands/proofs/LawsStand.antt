@@ -17,7 +17,7 @@ use Rattle.table.specs.Table.{emptyRule}
 use Rattle.children.specs.Rows.{rowInside, placesOf}
 use Rattle.rules.specs.Rules.{ruleAt}
 use Rattle.listed.specs.Listed.{isListed}
-use Rattle.demands.proofs.LawsOrder.{numbersOf-ruleAt}
+use Rattle.demands.proofs.LawsNumbers.{numbersOf-ruleAt}
 use Rattle.demands.proofs.LawsAscend.{Ascending, ascending-behind, inside-ascends, inside-after, Apart, apart-behind}
 use Rattle.demands.proofs.LawsSearch.{FirstNumber, FirstLone}
 

@@ -6,7 +6,7 @@
 -- OneAnswer, OneAnswerParts, OneAnswerPieces, OneAnswerC: every contract admits one answer.      Values: both, of the functions under the C interface.
 -- Starred: the starred examples, one list under one theorem.      Listed: the example of dcdlist.
 -- Sentences: sentences of document 01 that follow from the definitions.
--- LawsFill, LawsOrder: rules, classifiers and numbers stand in the table in byte order.      LawsAscend: places ascend.
+-- LawsFill, LawsOrder, LawsNumbers: rules, classifiers and numbers stand in the table in byte order.      LawsAscend: places ascend.
 -- LawsCount, LawsRoom: what passed its tests keeps to the room of the lists.
 -- LawsSearch: what the search for a lone number finds.
 -- LawsStand: where its number stands.      LawsReached: where reading comes to 15.
@@ -33,6 +33,7 @@ pub mod Listed
 pub mod Sentences
 pub mod LawsFill
 pub mod LawsOrder
+pub mod LawsNumbers
 pub mod LawsAscend
 pub mod LawsCount
 pub mod LawsRoom

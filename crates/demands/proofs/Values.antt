@@ -1,8 +1,6 @@
 -- Values: what the functions under the C interface give, which have records by value and answers as numbers (crates dsg_pieces, dsg_tables,
 -- dsg_frames, dsg_events): each its definition, for every input; and that each contract admits one answer only, as OneAnswer says it.
 -- Trusts: nothing.
-use Prim.Native.Nat.{ℕ}
-use mathlib.Core.Path.{_≡_}
 use lib.ListN.{length}
 use contract.Lifetimes.{Lfts}
 use denote.Ref.{now}
@@ -33,11 +31,13 @@ collect_value-gives κs a x s h = h
 pub collect_value-one : (κs : Lfts 3) → One {L = CollectAfter} (λ x s. record { answer = x .answer; held = x .held; slots = now (s .1 .0); join = now (s .1 .1 .0) }) (collect_value.Post κs)
 collect_value-one κs = only (collect_value-gives κs)
 
-pub receive_value-gives : (κs : Lfts 3) → Gives {L = ReceiveAfter} (λ x s. record { answer = x .answer; held = x .held; table = x .table; slots = now (s .1 .1 .0); join = now (s .1 .1 .1 .0) }) (receive_value.Post κs)
+pub receive_value-gives : (κs : Lfts 3) → Gives {L = ReceiveAfter}
+    (λ x s. record { answer = x .answer; held = x .held; table = x .table; slots = now (s .1 .1 .0); join = now (s .1 .1 .1 .0) }) (receive_value.Post κs)
     (λ a. receiveAfter (a .0) (a .1 .0) (now (a .1 .1 .0)) (now (a .1 .1 .1 .0)) (now (a .1 .1 .1 .1 .0)))
 receive_value-gives κs a x s h = h
 
-pub receive_value-one : (κs : Lfts 3) → One {L = ReceiveAfter} (λ x s. record { answer = x .answer; held = x .held; table = x .table; slots = now (s .1 .1 .0); join = now (s .1 .1 .1 .0) }) (receive_value.Post κs)
+pub receive_value-one : (κs : Lfts 3) → One {L = ReceiveAfter}
+    (λ x s. record { answer = x .answer; held = x .held; table = x .table; slots = now (s .1 .1 .0); join = now (s .1 .1 .1 .0) }) (receive_value.Post κs)
 receive_value-one κs = only (receive_value-gives κs)
 
 -- ---- tables: the answer, and the table or the buffer
