@@ -53,10 +53,10 @@ no-refuse-all = reader.no-refuse-all
 abbrev application : ℕ → Client
 application n = record { kind = 4; value = n }
 
--- a rule for one application, with a number of its own and a tunnel of its own
 abbrev clientsFor : ℕ → List Client
 clientsFor n = application n ∷ replicate 7 emptyClient
 
+-- a rule for one application, with a number of its own and a tunnel of its own
 abbrev ruleFor : ℕ → Rule
 ruleFor n =
     record { number = n; priority = 0; ucidcount = 0; clientcount = 1; numbercount = 0; ucids = replicate 16 0; numbers = replicate 8 0; tunnel = n; clients = clientsFor n }
