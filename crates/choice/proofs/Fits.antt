@@ -6,15 +6,15 @@
 --   choiceOf-17      an answer that is no rule is 17, and no rule fits
 --   choiceOf-unlisted  a client that no rule lists: 17
 -- Trusts: nothing.
-use mathlib.Core.Path.{_≡_, refl, sym, ap, _∙_}
-use mathlib.Core.Bool.{Bool, true, false, cond, _&&_}
+use mathlib.Core.Path.{_≡_, refl, sym}
+use mathlib.Core.Bool.{Bool, true, false, cond}
 use mathlib.Core.List.{List, List·Memᴰ}
 use mathlib.Core.Logic.{_⊎_, inl, inr}
 use Prim.Native.Nat.{ℕ, _≤_, _<_}
 use native.Mathlib.Nat.{le-of-eq, le-antisymm}
 use native.Mathlib.Omega.{arith}
 use lib.Dec.{ltb}
-use lib.ListN.{length, getD, take, length-take}
+use lib.ListN.{length, length-take}
 use borrow.Author.Tests.{ltb-true, ltb-false, lt-ltb, le-ltb}
 use Rattle.table.specs.declared.Client.{Client}
 use Rattle.table.specs.declared.Rule.{Rule}
@@ -29,7 +29,7 @@ use Rattle.choice.specs.Choose.{listsClient, fitsClient, chosenPlace, ch
 use Rattle.order.proofs.Order.{comesBefore-yes, comesBefore-no}
 use Rattle.order.proofs.Places.{bestPlace-none, bestPlace-le}
 use Rattle.order.proofs.Scan.{bestPlace-nobody}
-use Rattle.order.proofs.Chosen.{mem-at, place-of, bestPlace-passes, bestPlace-over, bestPlace-first, bestPlace-only}
+use Rattle.order.proofs.Chosen.{bestPlace-passes, bestPlace-over, bestPlace-first, bestPlace-only}
 
 abbrev pr : Rule → ℕ
 pr rule = rule .priority

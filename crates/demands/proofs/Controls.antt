@@ -12,7 +12,7 @@
 use Prim.Native.Nat.{ℕ, _≤_}
 use mathlib.Core.Path.{_≡_, refl, sym, ap, _∙_}
 use mathlib.Core.Bool.{true, false}
-use mathlib.Core.List.{List, [], _∷_}
+use mathlib.Core.List.{List, _∷_}
 use native.Mathlib.Omega.{arith}
 use lib.ListN.{length, replicate}
 use Rattle.table.specs.declared.Client.{Client}
@@ -23,7 +23,7 @@ use Rattle.reader.specs.Read.{numberOf, readTable}
 use Rattle.reader.specs.declared.Reading.{Reading}
 use Rattle.reader.proofs.Controls as reader
 use Rattle.choice.specs.declared.Ucid.{Ucid}
-use Rattle.choice.specs.declared.Ucid.the-variants.{Unknown, Known}
+use Rattle.choice.specs.declared.Ucid.the-variants.{Unknown}
 use Rattle.choice.specs.declared.Choice.{Choice}
 use Rattle.choice.specs.declared.Choice.the-variants as choice
 use Rattle.order.specs.Best.{comesBefore, anyOf, firstPlace, isBest, bestPlace}

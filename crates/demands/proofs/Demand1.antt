@@ -22,13 +22,13 @@ use borrow.Author.Tests.{eqb-false}
 use lib.ListN.{length, getD, drop}
 use lib.Dec.{eqb, ltb}
 use Rattle.wire.specs.Bytes.{pasted}
-use Rattle.collector.specs.Answers.{Said, refused, again, waiting, complete, lentOf}
+use Rattle.collector.specs.Answers.{refused, again, waiting, complete, lentOf}
 use Rattle.held.specs.Held.{emptySlots}
 use Rattle.joining.specs.Pieces.{joined}
 use Rattle.body_tests.specs.Refusals.{numberOf, slotOf, pieceOf, bodyRefusal, refusalOf}
 use Rattle.relation.specs.Relation.{repeats}
 use Rattle.collector.specs.Step.{relationOf, baseOf, noted, After, after, finished, accepted, collectStep}
-use Rattle.lending.specs.Lent.{LentAfter, lentStep}
+use Rattle.lending.specs.Lent.{lentStep}
 use Rattle.collection.specs.declared.Collection.{Collection}
 use Rattle.table.specs.declared.Table.{Table}
 use Rattle.elements.specs.Elements.{headAt}

@@ -4,8 +4,7 @@
 -- fact, here one equation, and what the fact gives. For the others the toolchain reads the fact out, as in Parts. `met` of each function, in
 -- its own crate, says that the compiled function meets the contract cited here.
 -- Trusts: nothing.
-use Prim.Native.Nat.{ℕ}
-use mathlib.Core.Path.{_≡_, refl}
+use mathlib.Core.Path.{refl}
 use lib.ListN.{length}
 use contract.Lifetimes.{Lfts}
 use denote.Ref.{now}

@@ -7,7 +7,7 @@ use Prim.Native.Nat.{ℕ, zero, suc, _+_, _-_, _≤_}
 use mathlib.Core.Path.{_≡_, refl, sym}
 use mathlib.Core.Bool.{Bool, true, false, cond, not}
 use mathlib.Core.List.{List, _∷_}
-use mathlib.Core.Logic.{_⊎_, inl, inr}
+use mathlib.Core.Logic.{inl, inr}
 use native.Mathlib.Omega.{arith}
 use borrow.Author.Tests.{eqb-true, eqb-false}
 use lib.ListN.{length, getD}
@@ -17,7 +17,6 @@ use Rattle.types.specs.Types.{knownTypes}
 use Rattle.types.specs.Places.{childOf, under, placed, typeOf, parentIn, table, lineAt, placeIn, knownAt, typeUnder}
 use Rattle.elements.specs.declared.Head.{Head}
 use Rattle.elements.specs.declared.Head.the-variants.{End, Refused, Value}
-use Rattle.element_tests.specs.Tests.{stepped}
 use Rattle.rows.specs.Tests.{isRow, rowEnd, noneCounted}
 use Rattle.rows.specs.Rows as rows
 use Rattle.rows.specs.Rows.{elementWith, noted, goOn, onHead, rowStep, rowOf, elementOf, testedAt}
@@ -25,7 +24,7 @@ use Rattle.rows.specs.declared.Tally.{Tally}
 use Rattle.element_tests.specs.declared.Step.{Step}
 use Rattle.rows.specs.declared.Fault.{Fault}
 use Rattle.children.specs.Rows.{rowWith, rowFrom, rowIn, rowInside, typeAt, placesOf}
-use Rattle.demands.proofs.LawsCount.{Counted, Passed, element-passed, Repeats, turn-room}
+use Rattle.demands.proofs.LawsCount.{Passed, element-passed, Repeats, turn-room}
 
 -- ---- the table on 50, 50.6 and 23: a rule is place 1, its numbers are list 5 of its row, classifiers are list 0 of the top level
 
