@@ -18,7 +18,9 @@ use Rattle.choice.proofs.Bench.{application42, tableM, starred, unliste
 module _ (choose : Table → Client → Ucid → Choice) (promise : (t : Table) (c : Client) (u : Ucid) → choose t c u ≡ choiceOf t c u) where
   pub no-one-rule : ((t : Table) (c d : Client) (u : Ucid) → choose t c u ≡ choose t d u) → ⊥
   no-one-rule same =
-      let a : Chosen 0 ≡ Refused 17 = sym (starred Unknown .0) ∙ sym (promise tableM application42 Unknown) ∙ same tableM application42 (record { kind = 3; value = 42 }) Unknown ∙ promise tableM (record { kind = 3; value = 42 }) Unknown ∙ unlisted Unknown in
+      let listed : Client = application42 in
+      let other : Client = record { kind = 3; value = 42 } in
+      let a : Chosen 0 ≡ Refused 17 = sym (starred Unknown .0) ∙ sym (promise tableM listed Unknown) ∙ same tableM listed other Unknown ∙ promise tableM other Unknown ∙ unlisted Unknown in
       let z : _≡_ {A = ℕ} 0 1 = cc in
       omega arith
 

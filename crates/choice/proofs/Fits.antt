@@ -6,15 +6,15 @@
 --   choiceOf-17      an answer that is no rule is 17, and no rule fits
 --   choiceOf-unlisted  a client that no rule lists: 17
 -- Trusts: nothing.
-use mathlib.Core.Path.{_≡_, refl, sym, ap, _∙_}
-use mathlib.Core.Bool.{Bool, true, false, cond, _&&_}
+use mathlib.Core.Path.{_≡_, refl, sym}
+use mathlib.Core.Bool.{Bool, true, false, cond}
 use mathlib.Core.List.{List, List·Memᴰ}
 use mathlib.Core.Logic.{_⊎_, inl, inr}
 use Prim.Native.Nat.{ℕ, _≤_, _<_}
 use native.Mathlib.Nat.{le-of-eq, le-antisymm}
 use native.Mathlib.Omega.{arith}
 use lib.Dec.{ltb}
-use lib.ListN.{length, getD, take, length-take}
+use lib.ListN.{length, length-take}
 use borrow.Author.Tests.{ltb-true, ltb-false, lt-ltb, le-ltb}
 use Rattle.table.specs.declared.Client.{Client}
 use Rattle.table.specs.declared.Rule.{Rule}
@@ -29,13 +29,29 @@ use Rattle.choice.specs.Choose.{listsClient, fitsClient, chosenPlace, ch
 use Rattle.order.proofs.Order.{comesBefore-yes, comesBefore-no}
 use Rattle.order.proofs.Places.{bestPlace-none, bestPlace-le}
 use Rattle.order.proofs.Scan.{bestPlace-nobody}
-use Rattle.order.proofs.Chosen.{mem-at, place-of, bestPlace-passes, bestPlace-over, bestPlace-first, bestPlace-only}
+use Rattle.order.proofs.Chosen.{bestPlace-passes, bestPlace-over, bestPlace-first, bestPlace-only}
 
 abbrev pr : Rule → ℕ
 pr rule = rule .priority
 
 abbrev nu : Rule → ℕ
 nu rule = rule .number
+
+-- does p come before q; and what that says, and what its failing says
+abbrev leads : Rule → Rule → Bool
+leads p q = comesBefore (pr p) (nu p) (pr q) (nu q)
+
+abbrev Above : Rule → Rule → Type 0
+Above p q = (pr q < pr p) ⊎ ((pr p ≡ pr q) × (nu p < nu q))
+
+abbrev Below : Rule → Rule → Type 0
+Below p q = (pr p < pr q) ⊎ ((pr p ≡ pr q) × (nu q ≤ nu p))
+
+leads-yes : (p q : Rule) → leads p q ≡ true → Above p q
+leads-yes p q = comesBefore-yes (pr p) (nu p) (pr q) (nu q)
+
+leads-no : (p q : Rule) → leads p q ≡ false → Below p q
+leads-no p q = comesBefore-no (pr p) (nu p) (pr q) (nu q)
 
 pub rulesOf-few : (t : Table) → length (rulesOf t) ≤ 32
 unfolding rulesOf
@@ -48,29 +64,39 @@ module _ (t : Table) (c : Client) (u : Ucid) where
   abbrev ok : Rule → Bool
   ok = fitsClient c u
 
+  abbrev place : ℕ
+  place = chosenPlace c u rules
+
+  -- the answer by the test that a rule is found, and that no rule fits
+  abbrev answer : Bool → Choice
+  answer found = cond found (Chosen place) (Refused 17)
+
+  abbrev Nobody : Type 0
+  Nobody = (rule : Rule) → List·Memᴰ rule rules → ok rule ≡ false
+
   pub choiceOf-at : (k : ℕ) → chosenPlace c u (rulesOf t) ≡ k → k < length (rulesOf t) → choiceOf t c u ≡ Chosen k
   unfolding choiceOf
   choiceOf-at k e h = rw (e, lt-ltb k (length (rulesOf t)) h)
 
-  chosen-is : (k : ℕ) → choiceOf t c u ≡ Chosen k → (chosenPlace c u rules ≡ k) × (chosenPlace c u rules < length rules)
+  chosen-is : (k : ℕ) → choiceOf t c u ≡ Chosen k → (place ≡ k) × (place < length rules)
   unfolding choiceOf
-  chosen-is k e = go (ltb (chosenPlace c u rules) (length rules)) refl e
+  chosen-is k e = go (ltb place (length rules)) refl e
     where
-      go : (b : Bool) → ltb (chosenPlace c u rules) (length rules) ≡ b → cond {A = Choice} b (Chosen (chosenPlace c u rules)) (Refused 17) ≡ Chosen k → (chosenPlace c u rules ≡ k) × (chosenPlace c u rules < length rules)
-      go true eb ek = (cc, ltb-true (chosenPlace c u rules) (length rules) eb)
+      go : (b : Bool) → ltb place (length rules) ≡ b → answer b ≡ Chosen k → (place ≡ k) × (place < length rules)
+      go true eb ek = (cc, ltb-true place (length rules) eb)
       go false eb ek = let z : _≡_ {A = ℕ} 0 1 = cc in absurd (omega arith)
 
   pub choiceOf-fits : (k : ℕ) → choiceOf t c u ≡ Chosen k → FitsBest t c u k
   unfolding chosenPlace
   choiceOf-fits k e = rw (chosen-is k e .0) at best
     where
-      there : chosenPlace c u rules < length rules
+      there : place < length rules
       there = chosen-is k e .1
 
-      low : (j : ℕ) → j < length rules → ok (ruleAt t j) ≡ true → (pr (ruleAt t j) < pr (ruleAt t (chosenPlace c u rules))) ⊎ ((pr (ruleAt t j) ≡ pr (ruleAt t (chosenPlace c u rules))) × (nu (ruleAt t (chosenPlace c u rules)) ≤ nu (ruleAt t j)))
-      low j h f = comesBefore-no (pr (ruleAt t j)) (nu (ruleAt t j)) (pr (ruleAt t (chosenPlace c u rules))) (nu (ruleAt t (chosenPlace c u rules))) (bestPlace-over emptyRule pr nu ok rules there j h f)
+      low : (j : ℕ) → j < length rules → ok (ruleAt t j) ≡ true → Below (ruleAt t j) (ruleAt t place)
+      low j h f = leads-no (ruleAt t j) (ruleAt t place) (bestPlace-over emptyRule pr nu ok rules there j h f)
 
-      best : FitsBest t c u (chosenPlace c u rules)
+      best : FitsBest t c u place
       best = record {
         there = there;
         fits = bestPlace-passes emptyRule pr nu ok rules there;
@@ -91,32 +117,32 @@ module _ (t : Table) (c : Client) (u : Ucid) where
   unfolding chosenPlace
   FitsBest→choiceOf k f = choiceOf-at k (bestPlace-only emptyRule pr nu ok rules k (f .there) (f .fits) over front) (f .there)
     where
-      over : (j : ℕ) → j < length rules → ok (ruleAt t j) ≡ true → comesBefore (pr (ruleAt t j)) (nu (ruleAt t j)) (pr (ruleAt t k)) (nu (ruleAt t k)) ≡ false
-      over j h e = go (comesBefore (pr (ruleAt t j)) (nu (ruleAt t j)) (pr (ruleAt t k)) (nu (ruleAt t k))) refl
+      over : (j : ℕ) → j < length rules → ok (ruleAt t j) ≡ true → leads (ruleAt t j) (ruleAt t k) ≡ false
+      over j h e = go (leads (ruleAt t j) (ruleAt t k)) refl
         where
-          no : (pr (ruleAt t k) < pr (ruleAt t j)) ⊎ ((pr (ruleAt t j) ≡ pr (ruleAt t k)) × (nu (ruleAt t j) < nu (ruleAt t k))) → ⊥
+          no : Above (ruleAt t j) (ruleAt t k) → ⊥
           no (inl l) = omega (arith, f .greatest j h e)
           no (inr l) = omega (arith, f .smallest j h e (l .0))
 
-          go : (b : Bool) → comesBefore (pr (ruleAt t j)) (nu (ruleAt t j)) (pr (ruleAt t k)) (nu (ruleAt t k)) ≡ b → comesBefore (pr (ruleAt t j)) (nu (ruleAt t j)) (pr (ruleAt t k)) (nu (ruleAt t k)) ≡ false
+          go : (b : Bool) → leads (ruleAt t j) (ruleAt t k) ≡ b → leads (ruleAt t j) (ruleAt t k) ≡ false
           go false eb = eb
-          go true eb = absurd (no (comesBefore-yes (pr (ruleAt t j)) (nu (ruleAt t j)) (pr (ruleAt t k)) (nu (ruleAt t k)) eb))
+          go true eb = absurd (no (leads-yes (ruleAt t j) (ruleAt t k) eb))
 
-      front : (j : ℕ) → j < k → ok (ruleAt t j) ≡ true → comesBefore (pr (ruleAt t k)) (nu (ruleAt t k)) (pr (ruleAt t j)) (nu (ruleAt t j)) ≡ true
-      front j l e = go (comesBefore (pr (ruleAt t k)) (nu (ruleAt t k)) (pr (ruleAt t j)) (nu (ruleAt t j))) refl
+      front : (j : ℕ) → j < k → ok (ruleAt t j) ≡ true → leads (ruleAt t k) (ruleAt t j) ≡ true
+      front j l e = go (leads (ruleAt t k) (ruleAt t j)) refl
         where
           h : j < length rules
           h = omega (arith, f .there)
 
-          no : (pr (ruleAt t k) < pr (ruleAt t j)) ⊎ ((pr (ruleAt t k) ≡ pr (ruleAt t j)) × (nu (ruleAt t j) ≤ nu (ruleAt t k))) → ⊥
+          no : Below (ruleAt t k) (ruleAt t j) → ⊥
           no (inl g) = omega (arith, f .greatest j h e)
           no (inr g) =
               let same : nu (ruleAt t j) ≡ nu (ruleAt t k) = omega (arith, f .smallest j h e (sym (g .0))) in
               omega (arith, f .first j h e (sym (g .0)) same)
 
-          go : (b : Bool) → comesBefore (pr (ruleAt t k)) (nu (ruleAt t k)) (pr (ruleAt t j)) (nu (ruleAt t j)) ≡ b → comesBefore (pr (ruleAt t k)) (nu (ruleAt t k)) (pr (ruleAt t j)) (nu (ruleAt t j)) ≡ true
+          go : (b : Bool) → leads (ruleAt t k) (ruleAt t j) ≡ b → leads (ruleAt t k) (ruleAt t j) ≡ true
           go true eb = eb
-          go false eb = absurd (no (comesBefore-no (pr (ruleAt t k)) (nu (ruleAt t k)) (pr (ruleAt t j)) (nu (ruleAt t j)) eb))
+          go false eb = absurd (no (leads-no (ruleAt t k) (ruleAt t j) eb))
 
   pub choiceOf-none : ((rule : Rule) → List·Memᴰ rule (rulesOf t) → fitsClient c u rule ≡ false) → choiceOf t c u ≡ Refused 17
   unfolding choiceOf chosenPlace
@@ -124,11 +150,13 @@ module _ (t : Table) (c : Client) (u : Ucid) where
 
   pub choiceOf-17 : (n : ℕ) → choiceOf t c u ≡ Refused n → (n ≡ 17) × ((rule : Rule) → List·Memᴰ rule (rulesOf t) → fitsClient c u rule ≡ false)
   unfolding choiceOf chosenPlace
-  choiceOf-17 n e = go (ltb (chosenPlace c u rules) (length rules)) refl e
+  choiceOf-17 n e = go (ltb place (length rules)) refl e
     where
-      go : (b : Bool) → ltb (chosenPlace c u rules) (length rules) ≡ b → cond {A = Choice} b (Chosen (chosenPlace c u rules)) (Refused 17) ≡ Refused n → (n ≡ 17) × ((rule : Rule) → List·Memᴰ rule (rulesOf t) → fitsClient c u rule ≡ false)
+      go : (b : Bool) → ltb place (length rules) ≡ b → answer b ≡ Refused n → (n ≡ 17) × Nobody
       go true eb en = let z : _≡_ {A = ℕ} 0 1 = cc in absurd (omega arith)
-      go false eb en = (cc, bestPlace-nobody pr nu ok rules (rulesOf-few t) (le-antisymm (bestPlace-le pr nu ok rules) (ltb-false (chosenPlace c u rules) (length rules) eb)))
+      go false eb en =
+          let all = le-antisymm (bestPlace-le pr nu ok rules) (ltb-false place (length rules) eb) in
+          (cc, bestPlace-nobody pr nu ok rules (rulesOf-few t) all)
 
   pub choiceOf-unlisted : ((rule : Rule) → List·Memᴰ rule (rulesOf t) → listsClient rule c ≡ false) → choiceOf t c u ≡ Refused 17
   unfolding fitsClient

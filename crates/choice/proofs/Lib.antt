@@ -1,6 +1,7 @@
--- Laws: of the choice. Fits: the choice said without a computation. Orderless: the order of the rules does not matter. Bench: message M.
--- Controls: wrong programs.
+-- Laws: of the choice. Walk: of the walk over the rules. Fits: the choice said without a computation. Orderless: the order of the rules does
+-- not matter. Bench: message M. Controls: wrong programs.
 pub mod Laws
+pub mod Walk
 pub mod Fits
 pub mod Orderless
 pub mod Bench

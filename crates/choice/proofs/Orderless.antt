@@ -95,5 +95,6 @@ module _ (c : Client) (u : Ucid) where
         go false false ea eb =
             List·getD-eq-default rs emptyRule (ltb-false (chosenPlace c u rs) (length rs) ea) ∙ sym (List·getD-eq-default ss emptyRule (ltb-false (chosenPlace c u ss) (length ss) eb))
 
-  pub chosenRule-perm : (rs ss : List Rule) → length rs ≤ 32 → length ss ≤ 32 → List·Permᴰ rs ss → ((y z : Rule) → List·Memᴰ y rs → List·Memᴰ z rs → y .number ≡ z .number → y ≡ z) → chosenRule c u rs ≡ chosenRule c u ss
+  pub chosenRule-perm : (rs ss : List Rule) → length rs ≤ 32 → length ss ≤ 32 → List·Permᴰ rs ss
+      → ((y z : Rule) → List·Memᴰ y rs → List·Memᴰ z rs → y .number ≡ z .number → y ≡ z) → chosenRule c u rs ≡ chosenRule c u ss
   chosenRule-perm rs ss few less p unique = chosenRule-members rs ss few less (λ y m. perm-mem p m) (λ y m. perm-mem (Permᴰ·symm p) m) unique

@@ -6,7 +6,7 @@
 -- Trusts: nothing.
 use Prim.Native.Nat.{ℕ, _+_, _≤_, _<_}
 use mathlib.Core.Path.{_≡_, refl, sym, ap, _∙_}
-use mathlib.Core.Bool.{Bool, false, and-false}
+use mathlib.Core.Bool.{false, and-false}
 use mathlib.Core.List.{List, [], _∷_, _++_, append-nil}
 use mathlib.Core.Logic.{_⊎_, inl, inr, ⊎-elim}
 use native.Mathlib.Omega.{arith}
@@ -21,8 +21,8 @@ use Rattle.relation.specs.Relation.{anew, relationTo}
 use Rattle.collector.specs.Step.{relationOf, baseOf, After, after, accepted, collectStep}
 use Rattle.collection.specs.declared.Collection.{Collection}
 use Rattle.body_tests.proofs.Laws.{refusalOf-room}
-use Rattle.collector_demands.specs.Runs.{accepts, runOf, Reply, reply, replyOf, HeldBy, standsFor, Sized}
-use Rattle.collector_demands.specs.Demand.{Lent, called, lentAfter, told, replyTo, isComplete, completions, Cutting, bodyOf, Arrived, none, other, piece, Came, Apart, Demand3}
+use Rattle.collector_demands.specs.Runs.{accepts, runOf, Reply, replyOf, HeldBy, standsFor, Sized}
+use Rattle.collector_demands.specs.Demand.{Lent, called, lentAfter, told, replyTo, isComplete, completions, Cutting, bodyOf, Arrived, none, other, piece, Apart, Demand3}
 use Rattle.collector_demands.proofs.Refine.{Rep, rep-held, refusalOf-long, step}
 use Rattle.collector_demands.proofs.Made.{rep-idle, rep-any}
 use Rattle.collector_demands.proofs.Kept.{join-kept, whole-all}

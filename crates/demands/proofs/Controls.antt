@@ -12,7 +12,7 @@
 use Prim.Native.Nat.{ℕ, _≤_}
 use mathlib.Core.Path.{_≡_, refl, sym, ap, _∙_}
 use mathlib.Core.Bool.{true, false}
-use mathlib.Core.List.{List, [], _∷_}
+use mathlib.Core.List.{List, _∷_}
 use native.Mathlib.Omega.{arith}
 use lib.ListN.{length, replicate}
 use Rattle.table.specs.declared.Client.{Client}
@@ -23,7 +23,7 @@ use Rattle.reader.specs.Read.{numberOf, readTable}
 use Rattle.reader.specs.declared.Reading.{Reading}
 use Rattle.reader.proofs.Controls as reader
 use Rattle.choice.specs.declared.Ucid.{Ucid}
-use Rattle.choice.specs.declared.Ucid.the-variants.{Unknown, Known}
+use Rattle.choice.specs.declared.Ucid.the-variants.{Unknown}
 use Rattle.choice.specs.declared.Choice.{Choice}
 use Rattle.choice.specs.declared.Choice.the-variants as choice
 use Rattle.order.specs.Best.{comesBefore, anyOf, firstPlace, isBest, bestPlace}
@@ -50,17 +50,21 @@ no-refuse-all = reader.no-refuse-all
 
 -- ---- choosing
 
+abbrev application : ℕ → Client
+application n = record { kind = 4; value = n }
+
+abbrev clientsFor : ℕ → List Client
+clientsFor n = application n ∷ replicate 7 emptyClient
+
 -- a rule for one application, with a number of its own and a tunnel of its own
 abbrev ruleFor : ℕ → Rule
 ruleFor n =
-    record { number = n; priority = 0; ucidcount = 0; clientcount = 1; numbercount = 0; ucids = replicate 16 0; numbers = replicate 8 0; tunnel = n; clients = record { kind = 4; value = n } ∷ replicate 7 emptyClient }
+    record { number = n; priority = 0; ucidcount = 0; clientcount = 1; numbercount = 0; ucids = replicate 16 0; numbers = replicate 8 0; tunnel = n; clients = clientsFor n }
 
 abbrev twoRules : Table
 twoRules =
-    record { rulecount = 2; classifiercount = 0; channelcount = 0; timers = defaultTimers; channels = replicate 32 0; classifiers = replicate 32 emptyClassifier; rules = ruleFor 1 ∷ ruleFor 2 ∷ replicate 30 emptyRule }
-
-abbrev application : ℕ → Client
-application n = record { kind = 4; value = n }
+    let both = ruleFor 1 ∷ ruleFor 2 ∷ replicate 30 emptyRule in
+    record { rulecount = 2; classifiercount = 0; channelcount = 0; timers = defaultTimers; channels = replicate 32 0; classifiers = replicate 32 emptyClassifier; rules = both }
 
 each-its-own : (choiceOf twoRules (application 1) Unknown ≡ choice.Chosen 0) × (choiceOf twoRules (application 2) Unknown ≡ choice.Chosen 1)
 unfolding choiceOf chosenPlace bestPlace isBest firstPlace anyOf comesBefore fitsClient admitsUcid listsClient isClient rulesOf clientsOf
@@ -69,7 +73,9 @@ each-its-own = (refl, refl)
 pub no-one-tunnel : (f : Table → Client → Ucid → Choice) → ((t : Table) (c : Client) (u : Ucid) → f t c u ≡ choiceOf t c u)
     → ((t : Table) (c d : Client) (u : Ucid) → f t c u ≡ f t d u) → ⊥
 no-one-tunnel f meets same =
-    let e : choice.Chosen 0 ≡ choice.Chosen 1 = sym (each-its-own .0) ∙ sym (meets twoRules (application 1) Unknown) ∙ same twoRules (application 1) (application 2) Unknown ∙ meets twoRules (application 2) Unknown ∙ each-its-own .1 in
+    let first = meets twoRules (application 1) Unknown in
+    let second = meets twoRules (application 2) Unknown in
+    let e : choice.Chosen 0 ≡ choice.Chosen 1 = sym (each-its-own .0) ∙ sym first ∙ same twoRules (application 1) (application 2) Unknown ∙ second ∙ each-its-own .1 in
     let z : _≡_ {A = ℕ} 0 1 = cc in
     omega arith
 

@@ -10,7 +10,7 @@
 --
 -- A body that goes all the way is in Demand1Receive; clients, frames and events in Demand1Frames; the numbers as a C host has them in Demand1C.
 -- That every entry takes any input is seen in its signature: no public function has a `requires` (docs/CONTRACTS.md); that it ends is part of
--- `met`. The theorems are about the definitions, which Demand2, Parts and Exported say are what the entries give.
+-- `met`. The theorems are about the definitions, which Demand2, Demand2Frames, Parts, PartsPieces and Exported say are what the entries give.
 -- Trusts: nothing.
 use Prim.Native.Nat.{ℕ, _*_, _-_, _≤_, _<_}
 use mathlib.Core.Path.{_≡_, refl, ap}
@@ -22,13 +22,13 @@ use borrow.Author.Tests.{eqb-false}
 use lib.ListN.{length, getD, drop}
 use lib.Dec.{eqb, ltb}
 use Rattle.wire.specs.Bytes.{pasted}
-use Rattle.collector.specs.Answers.{Said, refused, again, waiting, complete, lentOf}
+use Rattle.collector.specs.Answers.{refused, again, waiting, complete, lentOf}
 use Rattle.held.specs.Held.{emptySlots}
 use Rattle.joining.specs.Pieces.{joined}
 use Rattle.body_tests.specs.Refusals.{numberOf, slotOf, pieceOf, bodyRefusal, refusalOf}
 use Rattle.relation.specs.Relation.{repeats}
 use Rattle.collector.specs.Step.{relationOf, baseOf, noted, After, after, finished, accepted, collectStep}
-use Rattle.lending.specs.Lent.{LentAfter, lentStep}
+use Rattle.lending.specs.Lent.{lentStep}
 use Rattle.collection.specs.declared.Collection.{Collection}
 use Rattle.table.specs.declared.Table.{Table}
 use Rattle.elements.specs.Elements.{headAt}
@@ -48,8 +48,11 @@ use Rattle.notices.specs.Listing.{Listing, listing}
 finished-taken : (next : Collection) (slots join : List ℕ) (len n : ℕ) → finished next slots join len .answer ≡ refused n → ⊥
 unfolding finished
 finished-taken next slots join len n = go (eqb (emptySlots (next .filled) (next .number)) 0) (eqb (next .number) 1) where
+  whole : List ℕ
+  whole = joined slots (next .lengths) (next .number)
+
   go : (t u : Bool) → cond t (cond u (after (complete len) next slots join)
-      (after (complete (length (joined slots (next .lengths) (next .number)))) next slots (joined slots (next .lengths) (next .number) ++ drop (length (joined slots (next .lengths) (next .number))) join)))
+      (after (complete (length whole)) next slots (whole ++ drop (length whole) join)))
       (after (waiting (emptySlots (next .filled) (next .number))) next slots join) .answer ≡ refused n → ⊥
   go true true e = let z : _≡_ {A = ℕ} 0 1 = cc in omega arith
   go true false e = let z : _≡_ {A = ℕ} 0 1 = cc in omega arith
@@ -58,10 +61,15 @@ finished-taken next slots join len n = go (eqb (emptySlots (next .filled) (next 
 accepted-taken : (r : Collection) (slots join body : List ℕ) (n : ℕ) → accepted r slots join body .answer ≡ refused n → ⊥
 unfolding accepted
 accepted-taken r slots join body n = go (eqb (relationOf r slots body) repeats) where
-  go : (t : Bool) → cond t (after again r slots join)
-      (finished (noted (baseOf (relationOf r slots body) r body) (slotOf body) (length body - 3)) (pasted slots (slotOf body * 1500) (pieceOf body)) join (length body - 3)) .answer ≡ refused n → ⊥
+  next : Collection
+  next = noted (baseOf (relationOf r slots body) r body) (slotOf body) (length body - 3)
+
+  put : List ℕ
+  put = pasted slots (slotOf body * 1500) (pieceOf body)
+
+  go : (t : Bool) → cond t (after again r slots join) (finished next put join (length body - 3)) .answer ≡ refused n → ⊥
   go true e = let z : _≡_ {A = ℕ} 0 1 = cc in omega arith
-  go false e = finished-taken (noted (baseOf (relationOf r slots body) r body) (slotOf body) (length body - 3)) (pasted slots (slotOf body * 1500) (pieceOf body)) join (length body - 3) n e
+  go false e = finished-taken next put join (length body - 3) n e
 
 first-of-five : (a b c d e : Bool) → cond a 1 (cond b 2 (cond c 3 (cond d 4 (cond e 5 0)))) ≤ 5
 first-of-five true b c d e = omega arith
@@ -74,7 +82,8 @@ first-of-five false false false false false = omega arith
 refusalOf-most : (slots join : ℕ) (body : List ℕ) → refusalOf slots join body ≤ 5
 unfolding refusalOf bodyRefusal
 refusalOf-most slots join body =
-    first-of-five (ltb slots 24000 || ltb join 24000) (ltb (length body) 3) (ltb 1500 (length body)) (eqb (numberOf body) 0 || ltb 16 (numberOf body)) (eqb (getD body 2 0) 0 || ltb (numberOf body) (getD body 2 0))
+    first-of-five (ltb slots 24000 || ltb join 24000) (ltb (length body) 3) (ltb 1500 (length body))
+    (eqb (numberOf body) 0 || ltb 16 (numberOf body)) (eqb (getD body 2 0) 0 || ltb (numberOf body) (getD body 2 0))
 
 -- the call whose refusal number is n, 0 for none
 abbrev answered : Bool → ℕ → Collection → List ℕ → List ℕ → List ℕ → After
@@ -83,7 +92,10 @@ answered t n r slots join body = cond t (accepted r slots join body) (after (ref
 pub collectStep-refused : (r : Collection) (slots join body : List ℕ) (n : ℕ) → collectStep r slots join body .answer ≡ refused n
     → (collectStep r slots join body ≡ after (refused n) r slots join) × (1 ≤ n) × (n ≤ 5)
 unfolding collectStep
-collectStep-refused r slots join body n = go (eqb (refusalOf (length slots) (length join) body) 0) (refusalOf (length slots) (length join) body) refl (refusalOf-most (length slots) (length join) body) where
+collectStep-refused r slots join body n = go (eqb number 0) number refl (refusalOf-most (length slots) (length join) body) where
+  number : ℕ
+  number = refusalOf (length slots) (length join) body
+
   go : (t : Bool) (m : ℕ) → eqb m 0 ≡ t → m ≤ 5 → answered t m r slots join body .answer ≡ refused n → (answered t m r slots join body ≡ after (refused n) r slots join) × (1 ≤ n) × (n ≤ 5)
   go true m f most e = absurd (accepted-taken r slots join body n e)
   go false m f most e =

@@ -90,7 +90,8 @@ receiveAfter-refused r t slots join body e =
     (ap (λ (s : Had). s .held) (c .0), ap (λ (s : Had). s .table) (c .0), ap (λ (s : Had). s .slots) (c .0), ap (λ (s : Had). s .join) (c .0), c .1, c .2)
 
 pub receiveAfter-message : (r : Collection) (t : Table) (slots join body : List ℕ) → (let x = receiveAfter r t slots join body in x .answer .kind ≡ 4
-    → (x .table ≡ t) × (((x .answer .number ≡ 3) × (x .answer .offset ≡ 0)) ⊎ ((6 ≤ x .answer .number) × (x .answer .number ≤ 15) × (x .answer .offset < length (messageAfter (collectStep r slots join body) body)))))
+    → (x .table ≡ t) × (((x .answer .number ≡ 3) × (x .answer .offset ≡ 0))
+    ⊎ ((6 ≤ x .answer .number) × (x .answer .number ≤ 15) × (x .answer .offset < length (messageAfter (collectStep r slots join body) body)))))
 receiveAfter-message r t slots join body e =
     let c = receiveStep-message r t slots join body _ _ (message-kind (receiveStep r t slots join body .report) e) in
     (ap (λ (s : Had). s .table) (c .0), c .1)

@@ -55,7 +55,10 @@ unfolding verdictOf choiceVerdict ruleVerdict
 verdictOf-refused t c u frame n = go (wrongLength frame) (choiceOf t c u) refl where
   chosen : (k : ℕ) → ruleVerdict t (ruleAt t k) frame ≡ verdict.Refused n → ⊥
   chosen k = among (not (eqb (addressAt frame) (ruleAt t k .tunnel))) (eqb (ruleAt t k .numbercount) 0) (ltb (matchPlace t (ruleAt t k) frame) (length (classifiersOf t))) where
-    among : (x y z : Bool) → cond x verdict.Other (cond y (verdict.Forward 0) (cond z (verdict.Forward (getD (classifiersOf t) (matchPlace t (ruleAt t k) frame) emptyClassifier .number)) verdict.Filtered)) ≡ verdict.Refused n → ⊥
+    matching : ℕ
+    matching = getD (classifiersOf t) (matchPlace t (ruleAt t k) frame) emptyClassifier .number
+
+    among : (x y z : Bool) → cond x verdict.Other (cond y (verdict.Forward 0) (cond z (verdict.Forward matching) verdict.Filtered)) ≡ verdict.Refused n → ⊥
     among true y z e = let q : _≡_ {A = ℕ} 0 1 = cc in omega arith
     among false true z e = let q : _≡_ {A = ℕ} 0 1 = cc in omega arith
     among false false true e = let q : _≡_ {A = ℕ} 0 1 = cc in omega arith

@@ -4,8 +4,7 @@
 -- fact, here one equation, and what the fact gives. For the others the toolchain reads the fact out, as in Parts. `met` of each function, in
 -- its own crate, says that the compiled function meets the contract cited here.
 -- Trusts: nothing.
-use Prim.Native.Nat.{ℕ}
-use mathlib.Core.Path.{_≡_, refl}
+use mathlib.Core.Path.{refl}
 use lib.ListN.{length}
 use contract.Lifetimes.{Lfts}
 use denote.Ref.{now}
@@ -40,11 +39,13 @@ use Rattle.dsg.proofs.events.dsg_empty_modem.Reads as dsg_empty_modem
 
 -- ---- bodies: the answer, the record, the table and both buffers
 
-pub dsg_collect-gives : WalkedGives dsg_collect.ended (λ M 𝓤 H. dsg_collect.clauses 𝓤 H) {L = CollectAfter} (λ κs x s. record { answer = x; held = now (s .0); slots = now (s .1 .0); join = now (s .1 .1 .0) })
+pub dsg_collect-gives : WalkedGives dsg_collect.ended (λ M 𝓤 H. dsg_collect.clauses 𝓤 H) {L = CollectAfter}
+    (λ κs x s. record { answer = x; held = now (s .0); slots = now (s .1 .0); join = now (s .1 .1 .0) })
     (λ κs a. collectAfter (now (a .0)) (now (a .1 .0)) (now (a .1 .1 .0)) (now (a .1 .1 .1 .0)))
 dsg_collect-gives = fixed (λ M 𝓤 H A mem run κs a g x s. refl)
 
-pub dsg_receive-gives : WalkedGives dsg_receive.ended (λ M 𝓤 H. dsg_receive.clauses 𝓤 H) {L = ReceiveAfter} (λ κs x s. record { answer = x; held = now (s .0); table = now (s .1 .0); slots = now (s .1 .1 .0); join = now (s .1 .1 .1 .0) })
+pub dsg_receive-gives : WalkedGives dsg_receive.ended (λ M 𝓤 H. dsg_receive.clauses 𝓤 H) {L = ReceiveAfter}
+    (λ κs x s. record { answer = x; held = now (s .0); table = now (s .1 .0); slots = now (s .1 .1 .0); join = now (s .1 .1 .1 .0) })
     (λ κs a. receiveAfter (now (a .0)) (now (a .1 .0)) (now (a .1 .1 .0)) (now (a .1 .1 .1 .0)) (now (a .1 .1 .1 .1 .0)))
 dsg_receive-gives = fixed (λ M 𝓤 H A mem run κs a g x s. refl)
 

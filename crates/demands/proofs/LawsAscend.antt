@@ -79,7 +79,10 @@ module _ (msg : List ℕ) where
       on End = (at + 1, omega arith)
       on (Refused n) = (at + 1, omega arith)
       on (Value len) =
-          (at + 2 + len, ascending-from (at + 1) (at + 2) (at + 2 + len) (placesOf msg 6 (rowFrom (at + 2 + len - (at + 2)) msg (at + 2) (at + 2 + len))) (omega arith) (places-ascend (at + 2 + len - (at + 2)) msg 6 (at + 2) (at + 2 + len) (omega arith)))
+          let left = at + 2 + len - (at + 2) in
+          let places = placesOf msg 6 (rowFrom left msg (at + 2) (at + 2 + len)) in
+          let ascend = places-ascend left msg 6 (at + 2) (at + 2 + len) (omega arith) in
+          (at + 2 + len, ascending-from (at + 1) (at + 2) (at + 2 + len) places (omega arith) ascend)
 
   pub inside-after : (at x : ℕ) → List·Memᴰ x (placesOf msg 6 (rowInside msg at)) → at < x
   inside-after at x m = let a = inside-ascends at in let b = ascending-bounds (at + 1) (a .0) (placesOf msg 6 (rowInside msg at)) x (a .1) m in omega arith
@@ -105,7 +108,8 @@ module _ (msg : List ℕ) where
         where
           ordered : (q x : ℕ) → List·Memᴰ q (placesOf msg 50 (rowFrom left msg (at + 2 + len) (length msg))) → List·Memᴰ x (placesOf msg 6 (rowInside msg at)) → x < q
           ordered q x m k =
-              let a = ascending-bounds (at + 2 + len) (length msg) (placesOf msg 50 (rowFrom left msg (at + 2 + len) (length msg))) q (places-ascend left msg 50 (at + 2 + len) (length msg) (headAt-fits msg at (length msg) e .1)) m in
+              let ascend = places-ascend left msg 50 (at + 2 + len) (length msg) (headAt-fits msg at (length msg) e .1) in
+              let a = ascending-bounds (at + 2 + len) (length msg) (placesOf msg 50 (rowFrom left msg (at + 2 + len) (length msg))) q ascend m in
               let b = ascending-bounds (at + 2) (at + 2 + len) (placesOf msg 6 (rowInside msg at)) x (inside-ascend at len e) k in
               omega arith
 

@@ -25,13 +25,24 @@ use Rattle.rows.specs.declared.Fault.{Fault}
 use Rattle.children.specs.Rows.{typeAt}
 
 module _ (msg : List ℕ) (known : Known) (at len count : ℕ) where
-  own-passed : ownTests msg known at len count .bad ≡ 0 → (isFull (known .repeats) (known .room) count len ≡ false) × (ownTests msg known at len count ≡ stepped 0 at (known .list) (count + 1))
+  -- refused with a number, or counted; and the step by its four tests
+  abbrev fails : ℕ → Step
+  fails n = stepped n at (known .list) count
+
+  abbrev counts : Step
+  counts = stepped 0 at (known .list) (count + 1)
+
+  abbrev tried : Bool → Bool → Bool → Bool → Step
+  tried a b c d = cond a (fails 9) (cond b (fails 10) (cond c (fails 11) (cond d (fails 12) counts)))
+
+  own-passed : ownTests msg known at len count .bad ≡ 0
+      → (isFull (known .repeats) (known .room) count len ≡ false) × (ownTests msg known at len count ≡ counts)
   unfolding ownTests
   own-passed =
       go (secondCopy (known .repeats) count) (wrongLength (known .length) len) (badValue msg (known .values) at len) (isFull (known .repeats) (known .room) count len) refl
     where
       go : (a b c d : Bool) → isFull (known .repeats) (known .room) count len ≡ d
-          → (let s = cond a (stepped 9 at (known .list) count) (cond b (stepped 10 at (known .list) count) (cond c (stepped 11 at (known .list) count) (cond d (stepped 12 at (known .list) count) (stepped 0 at (known .list) (count + 1))))) in s .bad ≡ 0 → (isFull (known .repeats) (known .room) count len ≡ false) × (s ≡ stepped 0 at (known .list) (count + 1)))
+          → tried a b c d .bad ≡ 0 → (isFull (known .repeats) (known .room) count len ≡ false) × (tried a b c d ≡ counts)
       go true b c d e z = absurd (omega arith)
       go false true c d e z = absurd (omega arith)
       go false false true d e z = absurd (omega arith)
@@ -45,9 +56,13 @@ pub record Counted (inside : ℕ → Fault) (known : Known) (at len : ℕ) (t : 
   pub step : s ≡ stepped 0 at (known .list) (getD t (known .list) 0 + 1)
   pub row : isRow (known .length) ≡ true → inside (known .place) .bad ≡ 0
 
+-- the two ways that an element passes: its type is not listed, or it is counted
+abbrev pub Passed : (ℕ → Fault) → Known → ℕ → ℕ → List ℕ → Step → Type 0
+Passed inside known at len t s = ((known .place ≡ 26) × (s ≡ stepped 0 at 8 0)) ⊎ Counted inside known at len t s
+
 module _ (inside : ℕ → Fault) (msg : List ℕ) (parent at len : ℕ) (t : List ℕ) where
   pub element-passed : elementWith inside msg parent at len t .bad ≡ 0
-      → ((typeUnder parent (typeAt msg at) .place ≡ 26) × (elementWith inside msg parent at len t ≡ stepped 0 at 8 0)) ⊎ Counted inside (typeUnder parent (typeAt msg at)) at len t (elementWith inside msg parent at len t)
+      → Passed inside (typeUnder parent (typeAt msg at)) at len t (elementWith inside msg parent at len t)
   unfolding elementWith
   element-passed =
       go (eqb (known .place) 26) (eqb (own .bad) 0) (isRow (known .length)) (eqb (inside (known .place) .bad) 0) refl refl refl refl
@@ -61,14 +76,20 @@ module _ (inside : ℕ → Fault) (msg : List ℕ) (parent at len : ℕ) (t : Li
       own : Step
       own = ownTests msg known at len count
 
+      -- a row in the value is refused
+      row : Step
+      row = stepped (inside (known .place) .bad) (inside (known .place) .off) (known .list) count
+
       go : (a b c d : Bool) → eqb (known .place) 26 ≡ a → eqb (own .bad) 0 ≡ b → isRow (known .length) ≡ c → eqb (inside (known .place) .bad) 0 ≡ d
-          → (let s = cond a (stepped 0 at 8 0) (cond (not b) own (cond (not c) own (cond (not d) (stepped (inside (known .place) .bad) (inside (known .place) .off) (known .list) count) own))) in
-          s .bad ≡ 0 → ((known .place ≡ 26) × (s ≡ stepped 0 at 8 0)) ⊎ Counted inside known at len t s)
+          → (let s = cond a (stepped 0 at 8 0) (cond (not b) own (cond (not c) own (cond (not d) row own))) in s .bad ≡ 0 → Passed inside known at len t s)
       go true b c d p q r x z = inl (eqb-true (known .place) 26 p, refl)
       go false false c d p q r x z = absurd (eqb-false (own .bad) 0 q z)
       go false true false d p q r x z =
           let o = own-passed msg known at len count z in
-          inr (record { listed = eqb-false (known .place) 26 p; room = o .0; step = o .1; row = λ y. absurd (let w : _≡_ {A = Bool} true false = sym y ∙ r in let v : _≡_ {A = ℕ} 0 1 = cc in omega arith) })
+          inr (record { listed = eqb-false (known .place) 26 p; room = o .0; step = o .1; row = λ y. absurd (no-row (sym y ∙ r)) })
+        where
+          no-row : _≡_ {A = Bool} true false → ⊥
+          no-row w = let v : _≡_ {A = ℕ} 0 1 = cc in omega arith
       go false true true false p q r x z = absurd (eqb-false (inside (known .place) .bad) 0 x z)
       go false true true true p q r x z =
           let o = own-passed msg known at len count z in
@@ -82,13 +103,23 @@ pub record Repeats (parent kind list room : ℕ) : Type 0 where
   pub alone : (t : ℕ) → (t ≡ kind → ⊥) → (typeUnder parent t .place ≡ 26 → ⊥) → typeUnder parent t .list ≡ list → ⊥
   pub few : list < 8
 
-module _ (parent kind list room : ℕ) (k : Repeats parent kind list room) (inside : ℕ → Fault) (msg : List ℕ) (at len : ℕ) (t : List ℕ) (eight : length t ≡ 8) (z : elementWith inside msg parent at len t .bad ≡ 0) where
-  own-counts : typeAt msg at ≡ kind → (getD t list 0 < room) × (getD (noted t (elementWith inside msg parent at len t)) list 0 ≡ getD t list 0 + 1)
+module _ (parent kind list room : ℕ) (k : Repeats parent kind list room) (inside : ℕ → Fault) (msg : List ℕ) (at len : ℕ) (t : List ℕ)
+    (eight : length t ≡ 8) (z : elementWith inside msg parent at len t .bad ≡ 0) where
+  -- the element's step, the counts that it leaves, and how many are counted in the list
+  abbrev step : Step
+  step = elementWith inside msg parent at len t
+
+  abbrev after : List ℕ
+  after = noted t step
+
+  abbrev counted : List ℕ → ℕ
+  counted l = getD l list 0
+
+  own-counts : typeAt msg at ≡ kind → (counted t < room) × (counted after ≡ counted t + 1)
   unfolding isFull
   own-counts e = on (rw e at (element-passed inside msg parent at len t z))
     where
-      on : ((typeUnder parent kind .place ≡ 26) × (elementWith inside msg parent at len t ≡ stepped 0 at 8 0)) ⊎ Counted inside (typeUnder parent kind) at len t (elementWith inside msg parent at len t)
-          → (getD t list 0 < room) × (getD (noted t (elementWith inside msg parent at len t)) list 0 ≡ getD t list 0 + 1)
+      on : Passed inside (typeUnder parent kind) at len t step → (counted t < room) × (counted after ≡ counted t + 1)
       on (inl r) = absurd (k .listed (r .0))
       on (inr r) =
           let full = simp (k .counted, k .repeats, k .most) at (r .room) in
@@ -96,25 +127,25 @@ module _ (parent kind list room : ℕ) (k : Repeats parent kind list room) (insi
           let few = k .few in
           (leb-false room (getD t list 0) full, rw step (getD-set-same t list (getD t list 0 + 1) 0 (omega arith)))
 
-  other-counts : (typeAt msg at ≡ kind → ⊥) → getD (noted t (elementWith inside msg parent at len t)) list 0 ≡ getD t list 0
+  other-counts : (typeAt msg at ≡ kind → ⊥) → counted after ≡ counted t
   other-counts n = on (element-passed inside msg parent at len t z)
     where
-      on : ((typeUnder parent (typeAt msg at) .place ≡ 26) × (elementWith inside msg parent at len t ≡ stepped 0 at 8 0)) ⊎ Counted inside (typeUnder parent (typeAt msg at)) at len t (elementWith inside msg parent at len t)
-          → getD (noted t (elementWith inside msg parent at len t)) list 0 ≡ getD t list 0
+      own : ℕ
+      own = typeUnder parent (typeAt msg at) .list
+
+      on : Passed inside (typeUnder parent (typeAt msg at)) at len t step → counted after ≡ counted t
       on (inl r) = rw (r .1, set-out t 8 0 (omega arith)) refl
-      on (inr r) =
-          rw (r .step) (getD-set-other t (typeUnder parent (typeAt msg at) .list) list (getD t (typeUnder parent (typeAt msg at) .list) 0 + 1) 0 (λ e. k .alone (typeAt msg at) n (r .listed) (sym e)))
+      on (inr r) = rw (r .step) (getD-set-other t own list (getD t own 0 + 1) 0 (λ e. k .alone (typeAt msg at) n (r .listed) (sym e)))
 
   -- `l` are the places of those behind this element
-  pub turn-room : getD t list 0 ≤ room → (l : List ℕ)
-      → (length (noted t (elementWith inside msg parent at len t)) ≡ 8 → getD (noted t (elementWith inside msg parent at len t)) list 0 ≤ room → getD (noted t (elementWith inside msg parent at len t)) list 0 + length l ≤ room)
-      → getD t list 0 + length (cond (eqb (typeAt msg at) kind) (at ∷ l) l) ≤ room
+  pub turn-room : counted t ≤ room → (l : List ℕ) → (length after ≡ 8 → counted after ≤ room → counted after + length l ≤ room)
+      → counted t + length (cond (eqb (typeAt msg at) kind) (at ∷ l) l) ≤ room
   turn-room fits l rest = on (eqb (typeAt msg at) kind) refl
     where
-      noted-eight : length (noted t (elementWith inside msg parent at len t)) ≡ 8
+      noted-eight : length after ≡ 8
       noted-eight = simp length-set eight
 
-      on : (b : Bool) → eqb (typeAt msg at) kind ≡ b → getD t list 0 + length (cond b (at ∷ l) l) ≤ room
+      on : (b : Bool) → eqb (typeAt msg at) kind ≡ b → counted t + length (cond b (at ∷ l) l) ≤ room
       on true e =
           let c = own-counts (eqb-true (typeAt msg at) kind e) in
           let r = rest noted-eight (omega (arith, c .0, c .1)) in

@@ -23,23 +23,32 @@ abbrev pub Takes : {A : Type 0} → ℕ → List A → A → List A → Type 0
 Takes room old a now = (now ≡ old ++ (a ∷ [])) ⊎ ((room ≤ length old) × (now ≡ old))
 
 -- `listOf` is filled by the elements of one type, each with its value; `Sized` is what the walk keeps
-module _ {S A : Type 0} (listOf : S → List A) (room : ℕ) (Sized : S → Type 0) (msg : List ℕ) (kind : ℕ) (step : ℕ → ℕ → S → S) (value : ℕ → A) (keep : (at len : ℕ) (s : S) → Sized s → Sized (step at len s)) (other : (at len : ℕ) (s : S) → eqb (typeAt msg at) kind ≡ false → listOf (step at len s) ≡ listOf s) (more : (at len : ℕ) (s : S) → Sized s → eqb (typeAt msg at) kind ≡ true → Takes room (listOf s) (value at) (listOf (step at len s))) where
+module _ {S A : Type 0} (listOf : S → List A) (room : ℕ) (Sized : S → Type 0) (msg : List ℕ) (kind : ℕ) (step : ℕ → ℕ → S → S) (value : ℕ → A)
+    (keep : (at len : ℕ) (s : S) → Sized s → Sized (step at len s))
+    (other : (at len : ℕ) (s : S) → eqb (typeAt msg at) kind ≡ false → listOf (step at len s) ≡ listOf s)
+    (more : (at len : ℕ) (s : S) → Sized s → eqb (typeAt msg at) kind ≡ true → Takes room (listOf s) (value at) (listOf (step at len s))) where
+  -- the values of that type in a row
+  abbrev values : Row → List A
+  values row = map value (placesOf msg kind row)
+
   pub filled : (row : Row) (s : S) → Sized s → take room (listOf (rowFold step row s)) ≡ take room (listOf s ++ map value (placesOf msg kind row))
   filled done s p = ap (take room) (sym (append-nil (listOf s)))
   filled (bad at n) s p = ap (take room) (sym (append-nil (listOf s)))
   filled (item at len rest) s p = on (eqb (typeAt msg at) kind) refl (filled rest (step at len s) (keep at len s p))
     where
-      taken : Takes room (listOf s) (value at) (listOf (step at len s)) → take room (listOf (step at len s) ++ map value (placesOf msg kind rest)) ≡ take room (listOf s ++ (value at ∷ map value (placesOf msg kind rest)))
-      taken (inl e) = ap (λ l. take room (l ++ map value (placesOf msg kind rest))) e ∙ ap (take room) (append-snoc (listOf s) (value at) (map value (placesOf msg kind rest)))
-      taken (inr f) =
-          ap (λ l. take room (l ++ map value (placesOf msg kind rest))) (f .1)
-          ∙ take-append-le room (listOf s) (map value (placesOf msg kind rest)) (f .0)
-          ∙ sym (take-append-le room (listOf s) (value at ∷ map value (placesOf msg kind rest)) (f .0))
+      next : S
+      next = step at len s
 
-      on : (b : Bool) → eqb (typeAt msg at) kind ≡ b
-          → take room (listOf (rowFold step rest (step at len s))) ≡ take room (listOf (step at len s) ++ map value (placesOf msg kind rest))
-          → take room (listOf (rowFold step rest (step at len s))) ≡ take room (listOf s ++ map value (cond b (at ∷ placesOf msg kind rest) (placesOf msg kind rest)))
-      on false e h = h ∙ ap (λ l. take room (l ++ map value (placesOf msg kind rest))) (other at len s e)
+      taken : Takes room (listOf s) (value at) (listOf next) → take room (listOf next ++ values rest) ≡ take room (listOf s ++ (value at ∷ values rest))
+      taken (inl e) = ap (λ l. take room (l ++ values rest)) e ∙ ap (take room) (append-snoc (listOf s) (value at) (values rest))
+      taken (inr f) =
+          ap (λ l. take room (l ++ values rest)) (f .1)
+          ∙ take-append-le room (listOf s) (values rest) (f .0)
+          ∙ sym (take-append-le room (listOf s) (value at ∷ values rest) (f .0))
+
+      on : (b : Bool) → eqb (typeAt msg at) kind ≡ b → take room (listOf (rowFold step rest next)) ≡ take room (listOf next ++ values rest)
+          → take room (listOf (rowFold step rest next)) ≡ take room (listOf s ++ map value (cond b (at ∷ placesOf msg kind rest) (placesOf msg kind rest)))
+      on false e h = h ∙ ap (λ l. take room (l ++ values rest)) (other at len s e)
       on true e h = h ∙ taken (more at len s p e)
 
 -- an array of which the first n are used: one more is stored at the next place

@@ -19,7 +19,7 @@ use Rattle.elements.specs.declared.Head.the-variants.{End, Refused, Value}
 use Rattle.elements.proofs.Laws.{headAt-starts}
 use Rattle.table.specs.Table.{emptyTable}
 use Rattle.table.specs.declared.Table.{Table}
-use Rattle.children.specs.Rows.{Row, item, rowWith, rowFrom, rowIn, rowFold, typeAt, placesOf}
+use Rattle.children.specs.Rows.{Row, done, item, rowWith, rowFrom, rowIn, rowFold, typeAt, placesOf}
 use Rattle.rows.specs.Tests.{noneCounted, emptyTally}
 use Rattle.rows.specs.Rows.{testedAt}
 use Rattle.rows.specs.declared.Tally.{Tally}
@@ -44,27 +44,39 @@ pub record Reached (msg : List ℕ) (off : ℕ) (row : Row) (counts : List ℕ) 
   pub classifiers : length counts ≡ 8 → getD counts 0 0 ≤ 32 → getD counts 0 0 + length (placesOf msg 23 row) ≤ 32
 
 module _ (given : Table) (msg : List ℕ) (off : ℕ) where
-  lone-reached : (t : Table) → readLone given t (loneNumber msg t) .verdict ≡ Refuses 15 off → (i : ℕ) × (j : ℕ) × (unanswered t ≡ Number i j) × (off ≡ namedPlace msg i j)
+  -- the search over t finds a number, and its place is `off`
+  abbrev Lone : Table → Type 0
+  Lone t = (i : ℕ) × (j : ℕ) × (unanswered t ≡ Number i j) × (off ≡ namedPlace msg i j)
+
+  -- the message from `at` on, and that reading it from such a place comes to 15 at `off`
+  abbrev from : ℕ → ℕ → Row
+  from left at = rowFrom left msg at (length msg)
+
+  abbrev Comes : Row → Tally → Table → Type 0
+  Comes row tally t = readRow given msg row tally t .verdict ≡ Refuses 15 off
+
+  lone-reached : (t : Table) → readLone given t (loneNumber msg t) .verdict ≡ Refuses 15 off → Lone t
   unfolding loneNumber
   lone-reached t = on (unanswered t) refl
     where
-      on : (f : Found) → unanswered t ≡ f → readLone given t (placed msg f) .verdict ≡ Refuses 15 off → (i : ℕ) × (j : ℕ) × (unanswered t ≡ Number i j) × (off ≡ namedPlace msg i j)
+      on : (f : Found) → unanswered t ≡ f → readLone given t (placed msg f) .verdict ≡ Refuses 15 off → Lone t
       on Nothing e x = absurd (let z : _≡_ {A = ℕ} 0 1 = cc in omega arith)
       on (Number i j) e x = let o : off ≡ namedPlace msg i j = cc in (i, j, e, o)
 
-  row-reached : (left at : ℕ) (tally : Tally) (t : Table) → readRow given msg (rowFrom left msg at (length msg)) tally t .verdict ≡ Refuses 15 off → Reached msg off (rowFrom left msg at (length msg)) (tally .counts) t
-  unfolding rowFrom
-  row-reached zero at tally t x =
-      let r = lone-reached t x in
+  -- a row of no element
+  nothing-left : (counts : List ℕ) (t : Table) → Lone t → Reached msg off done counts t
+  nothing-left counts t r =
       record { i = r .0; j = r .1; found = r .2; place = r .3; room = λ p m. absurd (List·Memᴰ·not-nil m); classifiers = λ a b. omega arith }
+
+  row-reached : (left at : ℕ) (tally : Tally) (t : Table) → Comes (from left at) tally t → Reached msg off (from left at) (tally .counts) t
+  unfolding rowFrom
+  row-reached zero at tally t x = nothing-left (tally .counts) t (lone-reached t x)
   row-reached (suc left) at tally t x = on (headAt msg at (length msg)) refl x (λ len. row-reached left (at + 2 + len))
     where
-      on : (h : Head) → headAt msg at (length msg) ≡ h → readRow given msg (rowWith (λ next. rowFrom left msg next (length msg)) at h) tally t .verdict ≡ Refuses 15 off
-          → ((len : ℕ) (y : Tally) (u : Table) → readRow given msg (rowFrom left msg (at + 2 + len) (length msg)) y u .verdict ≡ Refuses 15 off → Reached msg off (rowFrom left msg (at + 2 + len) (length msg)) (y .counts) u)
-          → Reached msg off (rowWith (λ next. rowFrom left msg next (length msg)) at h) (tally .counts) t
-      on End e x rest =
-          let r = lone-reached t x in
-          record { i = r .0; j = r .1; found = r .2; place = r .3; room = λ p m. absurd (List·Memᴰ·not-nil m); classifiers = λ a b. omega arith }
+      on : (h : Head) → headAt msg at (length msg) ≡ h → Comes (rowWith (from left) at h) tally t
+          → ((len : ℕ) (y : Tally) (u : Table) → Comes (from left (at + 2 + len)) y u → Reached msg off (from left (at + 2 + len)) (y .counts) u)
+          → Reached msg off (rowWith (from left) at h) (tally .counts) t
+      on End e x rest = nothing-left (tally .counts) t (lone-reached t x)
       on (Refused n) e x rest = absurd (let s = headAt-starts msg at (length msg) e in let z : n ≡ 15 = cc in omega (arith, s .1))
       on (Value len) e x rest = turn (eqb (u .bad) 0) (isTaken msg at t) refl x
         where
@@ -72,14 +84,17 @@ module _ (given : Table) (msg : List ℕ) (off : ℕ) where
           u = testedAt msg at tally
 
           left-row : Row
-          left-row = rowFrom left msg (at + 2 + len) (length msg)
+          left-row = from left (at + 2 + len)
 
-          roomy : u .bad ≡ 0 → ((p : ℕ) → List·Memᴰ p (placesOf msg 50 left-row) → length (namedPlaces msg p) ≤ 8)
-              → (b : Bool) → eqb (typeAt msg at) 50 ≡ b → (p : ℕ) → List·Memᴰ p (cond b (at ∷ placesOf msg 50 left-row) (placesOf msg 50 left-row)) → length (namedPlaces msg p) ≤ 8
+          fifties : List ℕ
+          fifties = placesOf msg 50 left-row
+
+          roomy : u .bad ≡ 0 → ((p : ℕ) → List·Memᴰ p fifties → length (namedPlaces msg p) ≤ 8)
+              → (b : Bool) → eqb (typeAt msg at) 50 ≡ b → (p : ℕ) → List·Memᴰ p (cond b (at ∷ fifties) fifties) → length (namedPlaces msg p) ≤ 8
           roomy fine later false y p m = later p m
           roomy fine later true y p m = pick (List·Memᴰ·cases-cons m)
             where
-              pick : (p ≡ at) ⊎ List·Memᴰ p (placesOf msg 50 left-row) → length (namedPlaces msg p) ≤ 8
+              pick : (p ≡ at) ⊎ List·Memᴰ p fifties → length (namedPlaces msg p) ≤ 8
               pick (inl z) = rw z (named-room msg at len tally e fine (eqb-true (typeAt msg at) 50 y))
               pick (inr n) = later p n
 
@@ -91,12 +106,21 @@ module _ (given : Table) (msg : List ℕ) (off : ℕ) where
           turn true true y x = absurd (let z : _≡_ {A = ℕ} 14 15 = cc in omega arith)
           turn true false y x =
               let r = rest len (u .tally) (withElement msg at t) x in
-              record { i = r .i; j = r .j; found = r .found; place = r .place; room = roomy (eqb-true (u .bad) 0 y) (r .room) (eqb (typeAt msg at) 50) refl; classifiers = λ a b. classifier-room msg at len tally e (eqb-true (u .bad) 0 y) a b (placesOf msg 23 left-row) (r .classifiers) }
+              let fine = eqb-true (u .bad) 0 y in
+              record {
+                i = r .i;
+                j = r .j;
+                found = r .found;
+                place = r .place;
+                room = roomy fine (r .room) (eqb (typeAt msg at) 50) refl;
+                classifiers = λ a b. classifier-room msg at len tally e fine a b (placesOf msg 23 left-row) (r .classifiers);
+              }
 
   pub message-reached : readTable given msg .verdict ≡ Refuses 15 off → Reached msg off (rowIn msg 0 (length msg)) noneCounted emptyTable
   unfolding readTable rowIn
   message-reached = on (ltb 23952 (length msg))
     where
-      on : (b : Bool) → cond b (refusal 3 0 given) (readRow given msg (rowIn msg 0 (length msg)) emptyTally emptyTable) .verdict ≡ Refuses 15 off → Reached msg off (rowIn msg 0 (length msg)) noneCounted emptyTable
+      on : (b : Bool) → cond b (refusal 3 0 given) (readRow given msg (rowIn msg 0 (length msg)) emptyTally emptyTable) .verdict ≡ Refuses 15 off
+          → Reached msg off (rowIn msg 0 (length msg)) noneCounted emptyTable
       on true x = absurd (let z : _≡_ {A = ℕ} 3 15 = cc in omega arith)
       on false x = row-reached (length msg - 0) 0 emptyTally emptyTable x

@@ -7,7 +7,7 @@ use Prim.Native.Nat.{ℕ, zero, suc, _+_, _-_, _≤_}
 use mathlib.Core.Path.{_≡_, refl, sym}
 use mathlib.Core.Bool.{Bool, true, false, cond, not}
 use mathlib.Core.List.{List, _∷_}
-use mathlib.Core.Logic.{_⊎_, inl, inr}
+use mathlib.Core.Logic.{inl, inr}
 use native.Mathlib.Omega.{arith}
 use borrow.Author.Tests.{eqb-true, eqb-false}
 use lib.ListN.{length, getD}
@@ -17,7 +17,6 @@ use Rattle.types.specs.Types.{knownTypes}
 use Rattle.types.specs.Places.{childOf, under, placed, typeOf, parentIn, table, lineAt, placeIn, knownAt, typeUnder}
 use Rattle.elements.specs.declared.Head.{Head}
 use Rattle.elements.specs.declared.Head.the-variants.{End, Refused, Value}
-use Rattle.element_tests.specs.Tests.{stepped}
 use Rattle.rows.specs.Tests.{isRow, rowEnd, noneCounted}
 use Rattle.rows.specs.Rows as rows
 use Rattle.rows.specs.Rows.{elementWith, noted, goOn, onHead, rowStep, rowOf, elementOf, testedAt}
@@ -25,7 +24,7 @@ use Rattle.rows.specs.declared.Tally.{Tally}
 use Rattle.element_tests.specs.declared.Step.{Step}
 use Rattle.rows.specs.declared.Fault.{Fault}
 use Rattle.children.specs.Rows.{rowWith, rowFrom, rowIn, rowInside, typeAt, placesOf}
-use Rattle.demands.proofs.LawsCount.{Counted, element-passed, Repeats, turn-room}
+use Rattle.demands.proofs.LawsCount.{Passed, element-passed, Repeats, turn-room}
 
 -- ---- the table on 50, 50.6 and 23: a rule is place 1, its numbers are list 5 of its row, classifiers are list 0 of the top level
 
@@ -70,21 +69,28 @@ unfolding rows.rowFrom rowStep rowFrom
 row-room zero msg own at end t eight fits z = omega arith
 row-room (suc fuel) msg own at end t eight fits z = on (headAt msg at end) z (λ len. row-room fuel msg own (at + 2 + len) end)
   where
+    -- the row in an element's value, and the row behind the element
+    within : ℕ → ℕ → Fault
+    within len k = rows.rowFrom fuel msg k at (at + 2) (at + 2 + len) noneCounted
+
+    behind : ℕ → List ℕ → Fault
+    behind len u = rows.rowFrom fuel msg 1 own (at + 2 + len) end u
+
     on : (x : Head)
-        → onHead x (rowEnd 1 own t) at (λ len. goOn (elementWith (λ k. rows.rowFrom fuel msg k at (at + 2) (at + 2 + len) noneCounted) msg 1 at len t) (λ s. rows.rowFrom fuel msg 1 own (at + 2 + len) end (noted t s))) .bad ≡ 0
-        → ((len : ℕ) (u : List ℕ) → length u ≡ 8 → getD u 5 0 ≤ 8 → rows.rowFrom fuel msg 1 own (at + 2 + len) end u .bad ≡ 0 → getD u 5 0 + length (placesOf msg 6 (rowFrom fuel msg (at + 2 + len) end)) ≤ 8)
+        → onHead x (rowEnd 1 own t) at (λ len. goOn (elementWith (within len) msg 1 at len t) (λ s. behind len (noted t s))) .bad ≡ 0
+        → ((len : ℕ) (u : List ℕ) → length u ≡ 8 → getD u 5 0 ≤ 8 → behind len u .bad ≡ 0 → getD u 5 0 + length (placesOf msg 6 (rowFrom fuel msg (at + 2 + len) end)) ≤ 8)
         → getD t 5 0 + length (placesOf msg 6 (rowWith (λ next. rowFrom fuel msg next end) at x)) ≤ 8
     on End y rest = omega arith
     on (Refused n) y rest = omega arith
     on (Value len) y rest = turn (eqb (s .bad) 0) refl y
       where
         inside : ℕ → Fault
-        inside k = rows.rowFrom fuel msg k at (at + 2) (at + 2 + len) noneCounted
+        inside = within len
 
         s : Step
         s = elementWith inside msg 1 at len t
 
-        turn : (b : Bool) → eqb (s .bad) 0 ≡ b → cond (not b) (record { bad = s .bad; off = s .off }) (rows.rowFrom fuel msg 1 own (at + 2 + len) end (noted t s)) .bad ≡ 0
+        turn : (b : Bool) → eqb (s .bad) 0 ≡ b → cond (not b) (record { bad = s .bad; off = s .off }) (behind len (noted t s)) .bad ≡ 0
             → getD t 5 0 + length (placesOf msg 6 (rowWith (λ next. rowFrom fuel msg next end) at (Value len))) ≤ 8
         turn true e y =
             turn-room 1 6 5 8 named-repeats inside msg at len t eight (eqb-true (s .bad) 0 e) fits (placesOf msg 6 (rowFrom fuel msg (at + 2 + len) end)) (λ a b. rest len (noted t s) a b y)
@@ -98,7 +104,7 @@ module _ (msg : List ℕ) (at len : ℕ) (tally : Tally) (e : headAt msg at (len
       inside : ℕ → Fault
       inside i = rows.rowFrom (at + 2 + len - (at + 2)) msg i at (at + 2) (at + 2 + len) noneCounted
 
-      on : ((typeUnder 26 50 .place ≡ 26) × (elementWith inside msg 26 at len (tally .counts) ≡ stepped 0 at 8 0)) ⊎ Counted inside (typeUnder 26 50) at len (tally .counts) (elementWith inside msg 26 at len (tally .counts))
+      on : Passed inside (typeUnder 26 50) at len (tally .counts) (elementWith inside msg 26 at len (tally .counts))
           → length (placesOf msg 6 (rowFrom (at + 2 + len - (at + 2)) msg (at + 2) (at + 2 + len))) ≤ 8
       on (inl r) = absurd (omega (arith, r .0, rule-known .0))
       on (inr r) =

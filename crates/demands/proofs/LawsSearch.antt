@@ -50,7 +50,8 @@ module _ (carried : List ℕ) (k l : ℕ) where
       goes y (inr r) = inr (r .0, front (λ n. isListed n carried ≡ true) y (r .1))
 
       on : (b : Bool) → isListed x carried ≡ b → cond b (loneIn carried i (j + 1) ns later) (Number i j) ≡ Number k l
-          → (loneIn carried i (j + 1) ns later ≡ Number k l → ((k ≡ i) × ((n : ℕ) × (l ≡ j + 1 + n) × FirstNumber carried ns n)) ⊎ ((later ≡ Number k l) × ((n : ℕ) → List·Memᴰ n ns → isListed n carried ≡ true)))
+          → (loneIn carried i (j + 1) ns later ≡ Number k l
+          → ((k ≡ i) × ((n : ℕ) × (l ≡ j + 1 + n) × FirstNumber carried ns n)) ⊎ ((later ≡ Number k l) × ((n : ℕ) → List·Memᴰ n ns → isListed n carried ≡ true)))
           → ((k ≡ i) × ((n : ℕ) × (l ≡ j + n) × FirstNumber carried (x ∷ ns) n)) ⊎ ((later ≡ Number k l) × ((n : ℕ) → List·Memᴰ n (x ∷ ns) → isListed n carried ≡ true))
       on true y e rest = goes y (rest e)
       on false y e rest =
@@ -70,7 +71,8 @@ module _ (carried : List ℕ) (k l : ℕ) where
       on (inr r) rest =
           let s = rest (r .0) in
           let f = s .2 in
-          (suc (s .0), omega (arith, s .1), record { there = omega (arith, f .there); number = f .number; earlier = front (λ p. (n : ℕ) → List·Memᴰ n (numbersOf p) → isListed n carried ≡ true) (r .1) (f .earlier) })
+          let all = front (λ p. (n : ℕ) → List·Memᴰ n (numbersOf p) → isListed n carried ≡ true) (r .1) (f .earlier) in
+          (suc (s .0), omega (arith, s .1), record { there = omega (arith, f .there); number = f .number; earlier = all })
 
 pub unanswered-first : (t : Table) (i j : ℕ) → unanswered t ≡ Number i j → FirstLone (classifierNumbers t) (rulesOf t) i j
 unfolding unanswered

@@ -17,7 +17,7 @@ use Rattle.table.specs.Table.{emptyRule}
 use Rattle.children.specs.Rows.{rowInside, placesOf}
 use Rattle.rules.specs.Rules.{ruleAt}
 use Rattle.listed.specs.Listed.{isListed}
-use Rattle.demands.proofs.LawsOrder.{numbersOf-ruleAt}
+use Rattle.demands.proofs.LawsNumbers.{numbersOf-ruleAt}
 use Rattle.demands.proofs.LawsAscend.{Ascending, ascending-behind, inside-ascends, inside-after, Apart, apart-behind}
 use Rattle.demands.proofs.LawsSearch.{FirstNumber, FirstLone}
 
@@ -58,25 +58,32 @@ module _ (msg carried ps : List ℕ) (i j : ℕ) (first : FirstLone carried (tak
   number-at : (j < 8) × (j < length (namedPlaces msg (getD ps i 0))) × (getD (take 8 (map (named msg) (namedPlaces msg (getD ps i 0)))) j 0 ≡ named msg (getD (namedPlaces msg (getD ps i 0)) j 0))
   number-at = front-at (named msg) 8 (namedPlaces msg (getD ps i 0)) j 0 0 (first-number .there)
 
+  -- the places of the 50.6 in its 50, and the place of the one
+  abbrev sixes : List ℕ
+  sixes = namedPlaces msg (getD ps i 0)
+
+  abbrev place : ℕ
+  place = getD sixes j 0
+
   -- its 50, and the 50.6
   rule-split : ps ≡ take i ps ++ (getD ps i 0 ∷ drop (suc i) ps)
   rule-split = split-at ps i 0 (rule-at .1)
 
-  number-split : namedPlaces msg (getD ps i 0) ≡ take j (namedPlaces msg (getD ps i 0)) ++ (getD (namedPlaces msg (getD ps i 0)) j 0 ∷ drop (suc j) (namedPlaces msg (getD ps i 0)))
-  number-split = split-at (namedPlaces msg (getD ps i 0)) j 0 (number-at .1)
+  number-split : sixes ≡ take j sixes ++ (place ∷ drop (suc j) sixes)
+  number-split = split-at sixes j 0 (number-at .1)
 
   pub rule-among : List·Memᴰ (getD ps i 0) ps
   rule-among = subst (λ l. List·Memᴰ (getD ps i 0) l) (sym rule-split) (Memᴰ·append-right (take i ps) (List·Memᴰ·head refl))
 
   pub number-inside : List·Memᴰ (getD (namedPlaces msg (getD ps i 0)) j 0) (namedPlaces msg (getD ps i 0))
-  number-inside = subst (λ l. List·Memᴰ (getD (namedPlaces msg (getD ps i 0)) j 0) l) (sym number-split) (Memᴰ·append-right (take j (namedPlaces msg (getD ps i 0))) (List·Memᴰ·head refl))
+  number-inside = subst (λ l. List·Memᴰ place l) (sym number-split) (Memᴰ·append-right (take j sixes) (List·Memᴰ·head refl))
 
   pub number-lone : isListed (named msg (getD (namedPlaces msg (getD ps i 0)) j 0)) carried ≡ false
   number-lone = rw (number-at .2) at (first-number .lone)
 
   -- what stands before it in its own 50, and in an earlier one
-  same-rule : (x : ℕ) → List·Memᴰ x (take j (namedPlaces msg (getD ps i 0))) → isListed (named msg x) carried ≡ true
-  same-rule x m = first-number .before (named msg x) (front-before (named msg) 8 (namedPlaces msg (getD ps i 0)) j x (omega (arith, number-at .0)) m)
+  same-rule : (x : ℕ) → List·Memᴰ x (take j sixes) → isListed (named msg x) carried ≡ true
+  same-rule x m = first-number .before (named msg x) (front-before (named msg) 8 sixes j x (omega (arith, number-at .0)) m)
 
   earlier-rule : (q x : ℕ) → List·Memᴰ q (take i ps) → length (namedPlaces msg q) ≤ 8 → List·Memᴰ x (namedPlaces msg q) → isListed (named msg x) carried ≡ true
   earlier-rule q x m room k =
@@ -88,25 +95,25 @@ module _ (msg carried ps : List ℕ) (i j : ℕ) (first : FirstLone carried (tak
     pub all-before : (q x : ℕ) → List·Memᴰ q ps → List·Memᴰ x (namedPlaces msg q) → x < getD (namedPlaces msg (getD ps i 0)) j 0 → isListed (named msg x) carried ≡ true
     all-before q x m k less = on (List·Memᴰ·append-cases (take i ps) (subst (λ l. List·Memᴰ q l) rule-split m))
       where
-        behind : List·Memᴰ x (getD (namedPlaces msg (getD ps i 0)) j 0 ∷ drop (suc j) (namedPlaces msg (getD ps i 0))) → ⊥
+        behind : List·Memᴰ x (place ∷ drop (suc j) sixes) → ⊥
         behind n = at-or-after (List·Memᴰ·cases-cons n)
           where
-            at-or-after : (x ≡ getD (namedPlaces msg (getD ps i 0)) j 0) ⊎ List·Memᴰ x (drop (suc j) (namedPlaces msg (getD ps i 0))) → ⊥
+            at-or-after : (x ≡ place) ⊎ List·Memᴰ x (drop (suc j) sixes) → ⊥
             at-or-after (inl e) = omega arith
             at-or-after (inr n) =
                 let a = inside-ascends msg (getD ps i 0) in
-                let b = ascending-behind (getD ps i 0 + 1) (a .0) (take j (namedPlaces msg (getD ps i 0))) (getD (namedPlaces msg (getD ps i 0)) j 0) (drop (suc j) (namedPlaces msg (getD ps i 0))) x (subst (λ l. Ascending (getD ps i 0 + 1) (a .0) l) number-split (a .1)) n in
+                let b = ascending-behind (getD ps i 0 + 1) (a .0) (take j sixes) place (drop (suc j) sixes) x (subst (λ l. Ascending (getD ps i 0 + 1) (a .0) l) number-split (a .1)) n in
                 omega arith
 
-        same : List·Memᴰ x (take j (namedPlaces msg (getD ps i 0))) ⊎ List·Memᴰ x (getD (namedPlaces msg (getD ps i 0)) j 0 ∷ drop (suc j) (namedPlaces msg (getD ps i 0))) → isListed (named msg x) carried ≡ true
+        same : List·Memᴰ x (take j sixes) ⊎ List·Memᴰ x (place ∷ drop (suc j) sixes) → isListed (named msg x) carried ≡ true
         same (inl n) = same-rule x n
         same (inr n) = absurd (behind n)
 
         later : (q ≡ getD ps i 0) ⊎ List·Memᴰ q (drop (suc i) ps) → isListed (named msg x) carried ≡ true
         later (inl e) =
-            same (List·Memᴰ·append-cases (take j (namedPlaces msg (getD ps i 0))) (subst (λ l. List·Memᴰ x l) (ap (namedPlaces msg) e ∙ number-split) k))
+            same (List·Memᴰ·append-cases (take j sixes) (subst (λ l. List·Memᴰ x l) (ap (namedPlaces msg) e ∙ number-split) k))
         later (inr n) =
-            let a = apart-behind msg (take i ps) (getD ps i 0) (drop (suc i) ps) q (getD (namedPlaces msg (getD ps i 0)) j 0) (subst (λ l. Apart msg l) rule-split apart) n number-inside in
+            let a = apart-behind msg (take i ps) (getD ps i 0) (drop (suc i) ps) q place (subst (λ l. Apart msg l) rule-split apart) n number-inside in
             let b = inside-after msg q x k in
             absurd (omega arith)
 

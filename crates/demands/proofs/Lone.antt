@@ -7,7 +7,7 @@
 --   readTable-first           a message that is refused with 15 at `off`: off is this place
 --   lonely-refused            there is such a message
 --
--- The definition goes by two indices, the rule's and the number's. That the table has them in byte order is LawsOrder; that no 50.6 is
+-- The definition goes by two indices, the rule's and the number's. That they stand in byte order is LawsOrder and LawsNumbers; that no 50.6 is
 -- missing there, and no 23, is LawsRoom; what the search finds is LawsSearch; that what is counted earlier stands at a smaller offset is LawsAscend.
 -- Trusts: nothing.
 use Prim.Native.Nat.{ℕ, _-_, _<_}

@@ -3,16 +3,16 @@
 --
 -- One law, `only` of proofs/Contract.antt, and a line for each function. Of a result that is a lent part its contents are meant, and of an
 -- answer of the collector what it says: `said-only` of crate collector_demands, proofs/Controls.antt, is that this is the answer.
--- The functions of the lower crates are in OneAnswerParts, those that a C host calls in OneAnswerC. Not here: `main` of dcdlist, whose
--- contract can say nothing of what is read or written (docs/CONTRACTS.md).
+-- The functions of the lower crates are in OneAnswerParts and OneAnswerPieces, those that a C host calls in OneAnswerC. Not here: `main` of
+-- dcdlist, whose contract can say nothing of what is read or written (docs/CONTRACTS.md).
 -- Trusts: nothing.
 use contract.Lifetimes.{Lfts}
 use denote.Ref.{now}
 use Rattle.demands.proofs.Contract.{One, only, answer}
 use Rattle.demands.proofs.Demand2 as demand2
+use Rattle.demands.proofs.Demand2Frames as frames
 use Rattle.collector.specs.Answers.{said}
 use Rattle.collector.specs.Step.{After}
-use Rattle.lending.specs.Lent.{LentAfter}
 use Rattle.modem_step.specs.declared.Stepped.{Stepped}
 use Rattle.reader.proofs.read_table.Reads as read_table
 use Rattle.collection.proofs.empty_collection.Reads as empty_collection
@@ -47,7 +47,7 @@ collect-one κs = only (demand2.collect-gives κs)
 pub message-one : (κs : Lfts 1) → One (λ x s. now x) (message.Post κs)
 message-one κs = only (demand2.message-gives κs)
 
-pub collect_lent-one : (κs : Lfts 3) → One {L = LentAfter} (λ x s. record { answer = said (x .outcome .answer); held = x .outcome .held; slots = now (s .1 .0); own = now (x .own); joined = now (x .joined); rest = now (x .rest) }) (demand2.CollectLent κs)
+pub collect_lent-one : (κs : Lfts 3) → One (demand2.LentSeen κs) (demand2.CollectLent κs)
 collect_lent-one κs = only (demand2.collect_lent-gives κs)
 
 -- ---- reader
@@ -63,55 +63,55 @@ receive-one κs = only (demand2.receive-gives κs)
 -- ---- choice
 
 pub is_better-one : (κs : Lfts 0) → One answer (is_better.Post κs)
-is_better-one κs = only (demand2.is_better-gives κs)
+is_better-one κs = only (frames.is_better-gives κs)
 
 pub choose_rule-one : (κs : Lfts 0) → One answer (choose_rule.Post κs)
-choose_rule-one κs = only (demand2.choose_rule-gives κs)
+choose_rule-one κs = only (frames.choose_rule-gives κs)
 
 pub choice_rule_at-one : (κs : Lfts 0) → One answer (choice_rule_at.Post κs)
-choice_rule_at-one κs = only (demand2.choice_rule_at-gives κs)
+choice_rule_at-one κs = only (frames.choice_rule_at-gives κs)
 
 -- ---- tunnel
 
 pub judge_frame-one : (κs : Lfts 1) → One answer (judge_frame.Post κs)
-judge_frame-one κs = only (demand2.judge_frame-gives κs)
+judge_frame-one κs = only (frames.judge_frame-gives κs)
 
 pub payload-one : (κs : Lfts 1) → One (λ x s. now x) (payload.Post κs)
-payload-one κs = only (demand2.payload-gives κs)
+payload-one κs = only (frames.payload-gives κs)
 
 -- ---- preparing, prepared, tunnel_parts
 
 pub prepare_tunnel-one : (κs : Lfts 0) → One answer (prepare_tunnel.Post κs)
-prepare_tunnel-one κs = only (demand2.prepare_tunnel-gives κs)
+prepare_tunnel-one κs = only (frames.prepare_tunnel-gives κs)
 
 pub judge_prepared-one : (κs : Lfts 1) → One answer (judge_prepared.Post κs)
-judge_prepared-one κs = only (demand2.judge_prepared-gives κs)
+judge_prepared-one κs = only (frames.judge_prepared-gives κs)
 
 pub judge_lent-one : (κs : Lfts 2) → One answer (judge_lent.Post κs)
-judge_lent-one κs = only (demand2.judge_lent-gives κs)
+judge_lent-one κs = only (frames.judge_lent-gives κs)
 
 -- ---- modem
 
 pub empty_modem-one : (κs : Lfts 0) → One answer (empty_modem.Post κs)
-empty_modem-one κs = only (demand2.empty_modem-gives κs)
+empty_modem-one κs = only (frames.empty_modem-gives κs)
 
 pub counts_idle-one : (κs : Lfts 0) → One answer (counts_idle.Post κs)
-counts_idle-one κs = only (demand2.counts_idle-gives κs)
+counts_idle-one κs = only (frames.counts_idle-gives κs)
 
 pub act-one : (κs : Lfts 0) → One answer (act.Post κs)
-act-one κs = only (demand2.act-gives κs)
+act-one κs = only (frames.act-gives κs)
 
 pub step_modem-one : (κs : Lfts 0) → One answer (step_modem.Post κs)
-step_modem-one κs = only (demand2.step_modem-gives κs)
+step_modem-one κs = only (frames.step_modem-gives κs)
 
 pub step_numbered-one : (κs : Lfts 0) → One answer (step_numbered.Post κs)
-step_numbered-one κs = only (demand2.step_numbered-gives κs)
+step_numbered-one κs = only (frames.step_numbered-gives κs)
 
 pub transmits-one : (κs : Lfts 0) → One answer (transmits.Post κs)
-transmits-one κs = only (demand2.transmits-gives κs)
+transmits-one κs = only (frames.transmits-gives κs)
 
 pub forwards-one : (κs : Lfts 0) → One answer (forwards.Post κs)
-forwards-one κs = only (demand2.forwards-gives κs)
+forwards-one κs = only (frames.forwards-gives κs)
 
-pub on_event-one : (κs : Lfts 1) → One {L = Stepped} (λ x s. record { answer = x; modem = now (s .0) }) (demand2.OnEvent κs)
-on_event-one κs = only (demand2.on_event-gives κs)
+pub on_event-one : (κs : Lfts 1) → One {L = Stepped} (λ x s. record { answer = x; modem = now (s .0) }) (frames.OnEvent κs)
+on_event-one κs = only (frames.on_event-gives κs)

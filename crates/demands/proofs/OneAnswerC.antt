@@ -29,10 +29,12 @@ use Rattle.dsg.proofs.events.dsg_empty_modem.Reads as dsg_empty_modem
 
 -- ---- bodies
 
-pub dsg_collect-one : WalkedOne dsg_collect.ended (λ M 𝓤 H. dsg_collect.clauses 𝓤 H) {L = CollectAfter} (λ κs x s. record { answer = x; held = now (s .0); slots = now (s .1 .0); join = now (s .1 .1 .0) })
+pub dsg_collect-one : WalkedOne dsg_collect.ended (λ M 𝓤 H. dsg_collect.clauses 𝓤 H) {L = CollectAfter}
+    (λ κs x s. record { answer = x; held = now (s .0); slots = now (s .1 .0); join = now (s .1 .1 .0) })
 dsg_collect-one = only-walked exported.dsg_collect-gives
 
-pub dsg_receive-one : WalkedOne dsg_receive.ended (λ M 𝓤 H. dsg_receive.clauses 𝓤 H) {L = ReceiveAfter} (λ κs x s. record { answer = x; held = now (s .0); table = now (s .1 .0); slots = now (s .1 .1 .0); join = now (s .1 .1 .1 .0) })
+pub dsg_receive-one : WalkedOne dsg_receive.ended (λ M 𝓤 H. dsg_receive.clauses 𝓤 H) {L = ReceiveAfter}
+    (λ κs x s. record { answer = x; held = now (s .0); table = now (s .1 .0); slots = now (s .1 .1 .0); join = now (s .1 .1 .1 .0) })
 dsg_receive-one = only-walked exported.dsg_receive-gives
 
 pub dsg_empty_collection-one : (κs : Lfts 0) → One answer (dsg_empty_collection.Post κs)

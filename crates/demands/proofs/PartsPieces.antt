@@ -41,7 +41,8 @@ begin-gives κs a x s h = h
 pub is_of-gives : (κs : Lfts 0) → Gives answer (is_of.Post κs) (λ a. isOf (a .0) (a .1 .0) (a .1 .1 .0))
 is_of-gives κs a x s h = h
 
-pub join_pieces-gives : (κs : Lfts 2) → Gives {L = JoinAfter} (λ x s. record { size = x; join = now (s .1 .0) }) (join_pieces.Post κs) (λ a. joinStep (now (a .0)) (now (a .1 .0)) (a .1 .1 .0) (a .1 .1 .1 .0))
+pub join_pieces-gives : (κs : Lfts 2) → Gives {L = JoinAfter} (λ x s. record { size = x; join = now (s .1 .0) }) (join_pieces.Post κs)
+    (λ a. joinStep (now (a .0)) (now (a .1 .0)) (a .1 .1 .0) (a .1 .1 .1 .0))
 join_pieces-gives κs a x s h = h
 
 pub relate-gives : (κs : Lfts 2) → Gives answer (relate.Post κs) (λ a. relationTo (a .0) (now (a .1 .0)) (a .1 .1 .0) (a .1 .1 .1 .0) (a .1 .1 .1 .1 .0) (now (a .1 .1 .1 .1 .1 .0)))
@@ -68,21 +69,25 @@ fits_packet-gives κs a x s h = h
 
 -- ---- texts: the place behind the text and the lent buffer
 
-pub put_field-gives : (κs : Lfts 2) → Gives {L = Put} (λ x s. record { next = x; out = now (s .1 .1 .0) }) (put_field.Post κs) (λ a. (put) (field (now (a .0)) (a .1 .0)) (now (a .1 .1 .0)) (a .1 .1 .1 .0))
+pub put_field-gives : (κs : Lfts 2) → Gives {L = Put} (λ x s. record { next = x; out = now (s .1 .1 .0) }) (put_field.Post κs)
+    (λ a. (put) (field (now (a .0)) (a .1 .0)) (now (a .1 .1 .0)) (a .1 .1 .1 .0))
 put_field-gives κs a x s h = h
 
-pub put_address-gives : (κs : Lfts 2) → Gives {L = Put} (λ x s. record { next = x; out = now (s .1 .1 .0) }) (put_address.Post κs) (λ a. (put) (address (now (a .0)) (a .1 .0)) (now (a .1 .1 .0)) (a .1 .1 .1 .0))
+pub put_address-gives : (κs : Lfts 2) → Gives {L = Put} (λ x s. record { next = x; out = now (s .1 .1 .0) }) (put_address.Post κs)
+    (λ a. (put) (address (now (a .0)) (a .1 .0)) (now (a .1 .1 .0)) (a .1 .1 .1 .0))
 put_address-gives κs a x s h = h
 
 -- ---- notices, listing and bodies: the answer and the lent buffer
 
-pub list_refusal-gives : (κs : Lfts 1) → Gives {L = Listing} (λ x s. record { answer = written x; out = now (s .1 .1 .0) }) (list_refusal.Post κs) (λ a. listing (refusalText (a .0) (a .1 .0)) (now (a .1 .1 .0)))
+pub list_refusal-gives : (κs : Lfts 1) → Gives {L = Listing} (λ x s. record { answer = written x; out = now (s .1 .1 .0) }) (list_refusal.Post κs)
+    (λ a. listing (refusalText (a .0) (a .1 .0)) (now (a .1 .1 .0)))
 list_refusal-gives κs a x s h = h
 
 pub list_waiting-gives : (κs : Lfts 1) → Gives {L = Listing} (λ x s. record { answer = written x; out = now (s .1 .0) }) (list_waiting.Post κs) (λ a. listing (waitingText (a .0)) (now (a .1 .0)))
 list_waiting-gives κs a x s h = h
 
-pub list_table-gives : (κs : Lfts 1) → Gives {L = Listing} (λ x s. record { answer = written x; out = now (s .1 .1 .0) }) (list_table.Post κs) (λ a. listing (tableText (a .0) (a .1 .0)) (now (a .1 .1 .0)))
+pub list_table-gives : (κs : Lfts 1) → Gives {L = Listing} (λ x s. record { answer = written x; out = now (s .1 .1 .0) }) (list_table.Post κs)
+    (λ a. listing (tableText (a .0) (a .1 .0)) (now (a .1 .1 .0)))
 list_table-gives κs a x s h = h
 
 pub list_body-gives : (κs : Lfts 2) → Gives {L = Listing} (λ x s. record { answer = written x; out = now (s .1 .0) }) (list_body.Post κs) (λ a. listing (bodyText (now (a .0))) (now (a .1 .0)))

@@ -64,7 +64,9 @@ tableWith n rules k channels =
 
 abbrev nobody : Table
 nobody =
-    tableWith 1 (record { number = 5; priority = 0; ucidcount = 0; clientcount = 0; numbercount = 0; ucids = replicate 16 0; numbers = replicate 8 0; tunnel = 0x01005e050505; clients = replicate 8 emptyClient } ∷ replicate 31 emptyRule) 0 (replicate 32 0)
+    let none = replicate 8 emptyClient in
+    let rule : Rule = record { number = 5; priority = 0; ucidcount = 0; clientcount = 0; numbercount = 0; ucids = replicate 16 0; numbers = replicate 8 0; tunnel = 0x01005e050505; clients = none } in
+    tableWith 1 (rule ∷ replicate 31 emptyRule) 0 (replicate 32 0)
 
 row-nobody : rowIn (0x32 ∷ 16 ∷ 1 ∷ 1 ∷ 5 ∷ 4 ∷ 3 ∷ 0x63 ∷ 1 ∷ 0 ∷ 5 ∷ 6 ∷ 1 ∷ 0 ∷ 0x5E ∷ 5 ∷ 5 ∷ 5 ∷ []) 0 18 ≡ item 0 16 done
 unfolding rowFrom rowIn headAt

@@ -89,7 +89,10 @@ module _ (m : Modem) (now : ℕ) where
   disabled = go (countsIdle m) (isBack now (m .last)) refl refl where
     go : (i b : Bool) → countsIdle m ≡ i → isBack now (m .last) ≡ b → (steppedModem m now Disable .answer ≡ Done) ⊎ Mute m → Mute (nextModem m now Disable)
     go true b hi hb h = inl (ap (λ (s : Stepped). countsIdle (s .modem)) (steppedModem-ignored m now Disable no-start hi) ∙ hi)
-    go false true hi hb (inl d) = let z : _≡_ {A = ℕ} 18 0 = ap (λ (s : Stepped). answerNumber (s .answer)) (sym (steppedModem-back m now Disable no-start hi hb)) ∙ ap answerNumber d in absurd (omega arith)
+    go false true hi hb (inl d) =
+        let back = steppedModem-back m now Disable no-start hi hb in
+        let z : _≡_ {A = ℕ} 18 0 = ap (λ (s : Stepped). answerNumber (s .answer)) (sym back) ∙ ap answerNumber d in
+        absurd (omega arith)
     go false true hi hb (inr (inl i)) = absurd (true≢false (sym i ∙ hi))
     go false true hi hb (inr (inr p)) = inr (ap (λ (s : Stepped). s .modem .permission) (steppedModem-back m now Disable no-start hi hb) ∙ p)
     go false false hi hb h = inr (ap (λ (s : Stepped). s .modem .permission) (steppedModem-taken m now Disable no-start hi hb) ∙ silenced (aged m now))

@@ -5,7 +5,7 @@
 --   starred          they are the same, whatever table is given
 --
 -- The two bodies of the second example are answered by the runs of crate collector_demands, whose `cut-collected` says the same of the
--- collector and any lent buffers. That the code does what the definitions give is in Demand2.
+-- collector and any lent buffers. That the code does what the definitions give is in Demand2 and Demand2Frames.
 -- Trusts: nothing.
 use Prim.Native.Nat.{ℕ}
 use mathlib.Core.Path.{_≡_, refl, ap}

@@ -31,7 +31,8 @@ listing-text {most} {bytes} {out} {new} {next} h m w =
 pub listing-within : {k : ℕ} {new : List ℕ} (bytes out : List ℕ) → record { answer = text k; out = new } ≡ listing bytes out → k ≤ length new
 unfolding listing
 listing-within {k} {new} bytes out e = go (ltb (length out) 3755) e where
-  go : (b : Bool) → _≡_ {A = Listing} (record { answer = text k; out = new }) (cond b (record { answer = refused 100; out = out }) (record { answer = text (length bytes); out = bytes ++ drop (length bytes) out })) → k ≤ length new
+  go : (b : Bool) → _≡_ {A = Listing} (record { answer = text k; out = new })
+      (cond b (record { answer = refused 100; out = out }) (record { answer = text (length bytes); out = bytes ++ drop (length bytes) out })) → k ≤ length new
   go true f = let z : _≡_ {A = Written} (text k) (refused 100) = ap (λ (l : Listing). l .answer) f in let w : _≡_ {A = ℕ} 0 1 = cc in absurd (omega arith)
   go false f =
       let z : _≡_ {A = Written} (text k) (text (length bytes)) = ap (λ (l : Listing). l .answer) f in

@@ -28,7 +28,8 @@ pub verdictOf-short : (t : Table) (c : Client) (u : Ucid) (frame : List ℕ) →
 unfolding verdictOf
 verdictOf-short t c u frame w = rw w
 
-pub verdictOf-17 : (t : Table) (c : Client) (u : Ucid) (frame : List ℕ) → wrongLength frame ≡ false → ((rule : Rule) → List·Memᴰ rule (rulesOf t) → fitsClient c u rule ≡ false) → verdictOf t c u frame ≡ Refused 17
+pub verdictOf-17 : (t : Table) (c : Client) (u : Ucid) (frame : List ℕ) → wrongLength frame ≡ false
+    → ((rule : Rule) → List·Memᴰ rule (rulesOf t) → fitsClient c u rule ≡ false) → verdictOf t c u frame ≡ Refused 17
 unfolding verdictOf choiceVerdict
 verdictOf-17 t c u frame w h = rw (w, choiceOf-none t c u h)
 

@@ -16,14 +16,26 @@ short c = refusalText-short _ _ (c .fits .number .fits) (c .fits .offset .fits)
 fits : (c : tie.Start) → Fits (c .args .out .now) (c .args .at) (refusalText (c .args .number) (c .args .offset))
 fits c = fits-most 36 (c .pre) (short c)
 
+-- where the first field was put, and the walk's start
+abbrev Field : tie.After-put-last-arg2 → tie.After-put-field
+Field c = c .before .before .before .before
+
+abbrev Start : tie.After-put-field → tie.Start
+Start c = c .before .before .before .before
+
 put-last-requires : tie.Need-put-last-requires
 unfolding refusalText
-put-last-requires c κs = fits-rest (fits (c .before .before .before .before .before .before .before .before)) (put-first _ (fits (c .before .before .before .before .before .before .before .before)) (c .before .before .before .before .put-field .ensures))
+put-last-requires c κs =
+    let line = fits (Start (Field c)) in
+    fits-rest line (put-first _ line (Field c .put-field .ensures))
 
 returns : tie.Need-returns
 unfolding refusalText
 returns c =
-    record { wrote = wrote-then (fits (c .before .before .before .before .before .before .before .before .before .before .before)) (put-first _ (fits (c .before .before .before .before .before .before .before .before .before .before .before)) (c .before .before .before .before .before .before .before .put-field .ensures)) (c .before .before .put-last .ensures); short = short (c .before .before .before .before .before .before .before .before .before .before .before) }
+    let last = c .before .before in
+    let field = Field (last .before) in
+    let line = fits (Start field) in
+    record { wrote = wrote-then line (put-first _ line (field .put-field .ensures)) (last .put-last .ensures); short = short (Start field) }
 
 pub put-refusal-spec : {M : Type 1} → statement M
 put-refusal-spec = tie.close (tie.spec (λ c. search needs) (λ c κs. search needs) (λ c. search needs) put-last-requires (λ c. search needs) returns)

@@ -7,6 +7,13 @@ use native.Mathlib.Omega.{arith}
 use Rattle.rules.proofs.ucids_at.Statement.{statement}
 use Rattle.rules.proofs.ucids_at.Tie as tie
 
+-- what is copied is `len` bytes long
+returns : tie.Need-returns
+returns c =
+    let a = c .before .before .before .before .before .args in
+    let n : a .value + a .len - a .value ≡ a .len = omega arith in
+    c .before .copy-at .ensures ∙ simp n
+
 pub ucids-at-spec : {M : Type 1} → statement M
 ucids-at-spec =
     tie.close
@@ -17,4 +24,4 @@ ucids-at-spec =
     (λ c. search needs)
     (λ c. search needs)
     (λ c κs. search needs)
-    (λ c. let n : c .before .before .before .before .before .args .value + c .before .before .before .before .before .args .len - c .before .before .before .before .before .args .value ≡ c .before .before .before .before .before .args .len = omega arith in c .before .copy-at .ensures ∙ simp n))
+    returns)

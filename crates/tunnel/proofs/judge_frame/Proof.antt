@@ -12,12 +12,16 @@ returns c = simp (← c .before .wrong-length .ensures, c .if1 .taken)
 returns-2 : tie.Need-returns-2
 unfolding verdictOf choiceVerdict
 returns-2 c =
-    simp (← c .before .before .before .before .before .wrong-length .ensures, c .before .before .before .before .if1 .left, ← c .before .before .before .choose-rule .ensures, c .before .n .given .1)
+    let chosen = c .before .before .before in
+    simp (← chosen .before .before .wrong-length .ensures, chosen .before .if1 .left, ← chosen .choose-rule .ensures, c .before .n .given .1)
 
 returns-3 : tie.Need-returns-3
 unfolding verdictOf choiceVerdict
 returns-3 c =
-    simp (c .judge-rule .ensures, c .before .rule-at .ensures, ← c .before .before .before .before .before .before .before .wrong-length .ensures, c .before .before .before .before .before .before .if1 .left, ← c .before .before .before .before .before .choose-rule .ensures, c .before .before .before .k .given .1)
+    let k = c .before .before .before in
+    let chosen = k .before .before in
+    let right = chosen .before .if1 .left in
+    simp (c .judge-rule .ensures, c .before .rule-at .ensures, ← chosen .before .before .wrong-length .ensures, right, ← chosen .choose-rule .ensures, k .k .given .1)
 
 pub judge-frame-spec : {M : Type 1} → statement M
 judge-frame-spec =
