@@ -24,14 +24,34 @@ application42 = record { kind = 4; value = 42 }
 
 abbrev pub ruleM : ℕ → ℕ → ℕ → Rule
 ruleM number priority tunnel =
-    record { number = number; priority = priority; ucidcount = 0; clientcount = 1; numbercount = 0; ucids = replicate 16 0; numbers = replicate 8 0; tunnel = tunnel; clients = application42 ∷ replicate 7 emptyClient }
+    record {
+      number = number;
+      priority = priority;
+      ucidcount = 0;
+      clientcount = 1;
+      numbercount = 0;
+      ucids = replicate 16 0;
+      numbers = replicate 8 0;
+      tunnel = tunnel;
+      clients = application42
+          ∷ replicate 7 emptyClient;
+    }
 
 abbrev pub rulesM : List Rule
 rulesM = ruleM 5 80 0x01005e050505 ∷ ruleM 6 9 0x01005e060606 ∷ []
 
 abbrev pub tableM : Table
 tableM =
-    record { rulecount = 2; classifiercount = 0; channelcount = 1; timers = defaultTimers; channels = 603000000 ∷ replicate 31 0; classifiers = replicate 32 emptyClassifier; rules = rulesM ++ replicate 30 emptyRule }
+    record {
+      rulecount = 2;
+      classifiercount = 0;
+      channelcount = 1;
+      timers = defaultTimers;
+      channels = 603000000
+          ∷ replicate 31 0;
+      classifiers = replicate 32 emptyClassifier;
+      rules = rulesM ++ replicate 30 emptyRule;
+    }
 
 -- the choice looks at the rules alone
 pub choiceOf-rules : (t s : Table) (c : Client) (u : Ucid) → rulesOf t ≡ rulesOf s → choiceOf t c u ≡ choiceOf s c u

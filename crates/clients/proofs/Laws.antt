@@ -28,7 +28,8 @@ module _ (msg : List ℕ) (at len : ℕ) (so : Clients) {listed : Bool} (e : lis
   no-client-child f = sym (child-by ∙ simp f)
 
   module _ (t : listed ≡ true) where
-    pub with-client-child : ltb (so .count) 8 ≡ true → {one : Client} → one ≡ clientAt msg at len → record { count = so .count + 1; list = set (so .list) (so .count) one } ≡ withClientChild msg at len so
+    pub with-client-child : ltb (so .count) 8 ≡ true → {one : Client} → one ≡ clientAt msg at len → record { count = so .count + 1; list = set (so .list) (so .count) one }
+        ≡ withClientChild msg at len so
     unfolding withClient
     with-client-child h a = sym (child-by ∙ simp (t, h, a))
 

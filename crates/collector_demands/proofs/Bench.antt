@@ -30,7 +30,8 @@ use Rattle.collector_demands.proofs.Demands.{blank-nothing, demand-2-no
 
 abbrev pub M : List ℕ
 M =
-    0x32 ∷ 0x14 ∷ 1 ∷ 1 ∷ 5 ∷ 2 ∷ 1 ∷ 0x50 ∷ 4 ∷ 4 ∷ 4 ∷ 2 ∷ 0 ∷ 0x2A ∷ 5 ∷ 6 ∷ 1 ∷ 0 ∷ 0x5E ∷ 5 ∷ 5 ∷ 5 ∷ 0x32 ∷ 0x14 ∷ 1 ∷ 1 ∷ 6 ∷ 2 ∷ 1 ∷ 9 ∷ 4 ∷ 4 ∷ 4 ∷ 2 ∷ 0 ∷ 0x2A ∷ 5 ∷ 6 ∷ 1 ∷ 0 ∷ 0x5E ∷ 6 ∷ 6 ∷ 6 ∷ 0x33 ∷ 6 ∷ 1 ∷ 4 ∷ 0x23 ∷ 0xF1 ∷ 0x0C ∷ 0xC0 ∷ []
+    0x32 ∷ 0x14 ∷ 1 ∷ 1 ∷ 5 ∷ 2 ∷ 1 ∷ 0x50 ∷ 4 ∷ 4 ∷ 4 ∷ 2 ∷ 0 ∷ 0x2A ∷ 5 ∷ 6 ∷ 1 ∷ 0 ∷ 0x5E ∷ 5 ∷ 5 ∷ 5 ∷ 0x32 ∷ 0x14 ∷ 1 ∷ 1 ∷ 6 ∷ 2 ∷ 1 ∷ 9 ∷ 4 ∷ 4 ∷ 4 ∷ 2 ∷ 0 ∷ 0x2A ∷ 5 ∷ 6 ∷ 1 ∷ 0 ∷ 0x5E ∷ 6 ∷ 6
+    ∷ 6 ∷ 0x33 ∷ 6 ∷ 1 ∷ 4 ∷ 0x23 ∷ 0xF1 ∷ 0x0C ∷ 0xC0 ∷ []
 
 abbrev pub pieces : List (List ℕ)
 pieces = take 10 M ∷ drop 10 M ∷ []

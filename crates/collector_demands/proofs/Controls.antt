@@ -98,7 +98,8 @@ module _ (f : Collection → List ℕ → List ℕ → List ℕ → After) (meet
     unfolding accepts lookup
     first-missing b a =
         let fit = fits-of b (eqb-true (bodyRefusal b) 0 a) in
-        missing-less (lookup []) (lookup (b ∷ [])) (slotOf b) refl (ap isFull (lookup-own b [])) (λ j ne. rw (ne-eqb (slotOf b) j (λ e. ne (sym e))) refl) (numberOf b) (omega arith) ∙ missing-all (numberOf b)
+        missing-less (lookup []) (lookup (b ∷ [])) (slotOf b) refl (ap isFull (lookup-own b [])) (λ j ne. rw (ne-eqb (slotOf b) j (λ e. ne (sym e))) refl) (numberOf b) (omega arith)
+        ∙ missing-all (numberOf b)
 
     first-reply : (b : List ℕ) → accepts b ≡ true → 2 ≤ numberOf b → replyOf [] b ≡ reply (waiting (numberOf b - 1)) []
     unfolding replyOf runOf continues

@@ -31,7 +31,8 @@ finished-join : (next : Collection) (slots join : List ℕ) (len : ℕ) → leng
 unfolding finished
 finished-join next slots join len h = go (eqb (emptySlots (next .filled) (next .number)) 0) (eqb (next .number) 1) where
   go : (t u : Bool) → length (cond t (cond u (after (complete len) next slots join)
-      (after (complete (length (joined slots (next .lengths) (next .number)))) next slots (joined slots (next .lengths) (next .number) ++ drop (length (joined slots (next .lengths) (next .number))) join)))
+      (after (complete (length (joined slots (next .lengths) (next .number)))) next slots
+      (joined slots (next .lengths) (next .number) ++ drop (length (joined slots (next .lengths) (next .number))) join)))
       (after (waiting (emptySlots (next .filled) (next .number))) next slots join) .join) ≡ length join
   go true true = refl
   go true false = simp (length-append, length-drop) (omega arith)

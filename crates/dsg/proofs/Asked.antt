@@ -106,9 +106,12 @@ module _ (g : Name) (f : Modem → Bool) {M : Type 1} (𝓤 : URA M) (H : Heap �
         pass1 ! (init ! 2 refl (tt, tt)) $ pass0 ! $
         move ! (7 ∷ []) $ fsplit ! $ fsplit3 ! $ drop ! $ move ! (9 ∷ []) $ split ! $
         move ! (3 ∷ 0 ∷ []) $
-        looks ! tt D0.the-row (Is D0.the-row) (shows 𝓤 H A D0.the-row) (LL.vals D0.the-type D0′.the-laws) (LL.tells D0.the-type D0′.the-laws) (LL.copy D0.the-type D0′.the-copy 𝓤 H A W) h b o (λ s0 vs0. spelt ! D0.the-row (Is D0.the-row) (shows 𝓤 H A D0.the-row) (LL.vals D0.the-type D0′.the-laws) (LL.tells D0.the-type D0′.the-laws) s0 h vs0 b o $
+        looks ! tt D0.the-row (Is D0.the-row) (shows 𝓤 H A D0.the-row) (LL.vals D0.the-type D0′.the-laws) (LL.tells D0.the-type D0′.the-laws) (LL.copy D0.the-type D0′.the-copy 𝓤 H A W) h b o
+        (λ s0 vs0. spelt ! D0.the-row (Is D0.the-row) (shows 𝓤 H A D0.the-row) (LL.vals D0.the-type D0′.the-laws) (LL.tells D0.the-type D0′.the-laws) s0 h vs0 b o $
         move ! (1 ∷ []) $
-        peeks ! D0.the-row (Is D0.the-row) (shows 𝓤 H A D0.the-row) h (LL.val D0.the-type D0′.the-laws h ∷ []) (λ was. assigns ! (of-opd ! (load ! (from ! (hop ! (look ! 9 refl) (stop !))) (look-raw ! 1 refl))) (from ! (stop !)) (init ! 7 refl (LL.lawful D0.the-type D0′.the-laws 𝓤 H A W .typed h _ was .0)) $
+        peeks ! D0.the-row (Is D0.the-row) (shows 𝓤 H A D0.the-row) h (LL.val D0.the-type D0′.the-laws h ∷ [])
+        (λ was. assigns ! (of-opd ! (load ! (from ! (hop ! (look ! 9 refl) (stop !))) (look-raw ! 1 refl))) (from ! (stop !))
+        (init ! 7 refl (LL.lawful D0.the-type D0′.the-laws 𝓤 H A W .typed h _ was .0)) $
         move ! (1 ∷ 0 ∷ 2 ∷ []) $ shuts ! tt D0.the-row s0 h (LL.val D0.the-type D0′.the-laws h ∷ []) b o $
         use0 W (raw (Callee f 𝓤 H A at-mem run .pre to)) (goes-in was) $
         calls-at ! fm (Callee f 𝓤 H A at-mem run) known to (and-then ! (load ! (from ! (stop !)) (look ! 6 refl)) (no-more !)) (λ v.

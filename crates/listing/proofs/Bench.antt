@@ -21,7 +21,16 @@ ruleOf number priority tunnel =
 pub tableM : Table
 unfolding ruleOf
 tableM =
-    record { rulecount = 2; classifiercount = 0; channelcount = 1; timers = defaultTimers; channels = 603000000 ∷ replicate 31 0; classifiers = replicate 32 emptyClassifier; rules = ruleOf 5 80 0x01005e050505 ∷ ruleOf 6 9 0x01005e060606 ∷ replicate 30 emptyRule }
+    record {
+      rulecount = 2;
+      classifiercount = 0;
+      channelcount = 1;
+      timers = defaultTimers;
+      channels = 603000000
+          ∷ replicate 31 0;
+      classifiers = replicate 32 emptyClassifier;
+      rules = ruleOf 5 80 0x01005e050505 ∷ ruleOf 6 9 0x01005e060606 ∷ replicate 30 emptyRule;
+    }
 
 pub classifier10 : Classifier
 classifier10 =

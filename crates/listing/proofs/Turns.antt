@@ -57,7 +57,11 @@ module _ {A : Type 0} (most limit : ℕ) (line : A → List ℕ) (l : List A) (o
         let fits : Fits out at text = fits-most (most * i + most) (omega (arith, more-room h)) short in
         record {
           turns = omega arith;
-          lined = record { wrote = wrote-same e (wrote-then fits (t .lined .wrote) (w .wrote)); short = subst (λ (k : ℕ). Short k (linesOf line (take (i + 1) l))) n (subst (λ (y : List ℕ). Short (most * i + most) y) e short) };
+          lined = record {
+            wrote = wrote-same e (wrote-then fits (t .lined .wrote) (w .wrote));
+            short = subst (λ (k : ℕ). Short k (linesOf line (take (i + 1) l))) n
+                (subst (λ (y : List ℕ). Short (most * i + most) y) e short);
+          };
         }
 
     pub turned-all : length l ≤ i → Lined (most * limit) out at (linesOf line l) new next

@@ -24,6 +24,7 @@ pub timer-over-the-top : steppedModem (checkingAt 0xFFFFFF00 2000) 0x00000100 Ti
 unfolding steppedModem isStart countsIdle isBroken isBack fallen eventOn tickEvent restRow wakeRow retryRow
 timer-over-the-top = refl
 
-pub clock-back : (answerNumber (steppedModem (checkingAt 0x00000100 2000) 0xFFFFFF00 Tick .answer) ≡ 18) × (steppedModem (checkingAt 0x00000100 2000) 0xFFFFFF00 Tick .modem ≡ checkingAt 0x00000100 2000)
+pub clock-back : (answerNumber (steppedModem (checkingAt 0x00000100 2000) 0xFFFFFF00 Tick .answer) ≡ 18) ×
+    (steppedModem (checkingAt 0x00000100 2000) 0xFFFFFF00 Tick .modem ≡ checkingAt 0x00000100 2000)
 unfolding steppedModem isStart countsIdle isBroken isBack fallen eventOn tickEvent restRow wakeRow retryRow
 clock-back = (refl, refl)

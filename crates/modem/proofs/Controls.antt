@@ -18,7 +18,8 @@ use Rattle.modem_record.specs.Record.{emptyModem, isBroken, countsIdle}
 use Rattle.modem_rows.specs.Events.{startRow, disableRow, disableEvent, eventOn}
 use Rattle.modem_step.specs.Step.{isBack, fallen, isStart, answerNumber, steppedModem}
 
-pub step-only : (f g : Modem → ℕ → Event → Stepped) → ((m : Modem) (now : ℕ) (ev : Event) → f m now ev ≡ steppedModem m now ev) → ((m : Modem) (now : ℕ) (ev : Event) → g m now ev ≡ steppedModem m now ev)
+pub step-only : (f g : Modem → ℕ → Event → Stepped) → ((m : Modem) (now : ℕ) (ev : Event) → f m now ev ≡ steppedModem m now ev)
+    → ((m : Modem) (now : ℕ) (ev : Event) → g m now ev ≡ steppedModem m now ev)
     → (m : Modem) (now : ℕ) (ev : Event) → f m now ev ≡ g m now ev
 step-only f g meets also m now ev = meets m now ev ∙ sym (also m now ev)
 

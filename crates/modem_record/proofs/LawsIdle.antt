@@ -116,7 +116,8 @@ times-mark left on h = two (λ on. left * on ≤ left) (omega arith) (omega arit
 -- one that shows too much is over where its mark is 1, and never where it is 0
 pub isHeldOver-mark : (on left : ℕ) → on ≤ 1 → ltb 65535000 (left * on) ≡ isHeldOver on left
 unfolding isHeldOver
-isHeldOver-mark on left h = two (λ on. ltb 65535000 (left * on) ≡ (not (eqb on 0) && ltb 65535000 left)) (rw (le-ltb 65535000 (left * 0) (omega arith))) (let e : left * 1 ≡ left = omega arith in rw e) on h
+isHeldOver-mark on left h = two (λ on. ltb 65535000 (left * on) ≡ (not (eqb on 0) && ltb 65535000 left)) (rw (le-ltb 65535000 (left * 0) (omega arith)))
+    (let e : left * 1 ≡ left = omega arith in rw e) on h
 
 late : (a b o : Bool) (n : ℕ) → 0 < n → ((not (eqb n 1) || not a) || not b) || o ≡ ltb (cond (a && b) 1 0) n || (not (eqb n 0) && o)
 late false b o n h = simp (or-true, lt-ltb 0 n h)
@@ -169,17 +170,20 @@ module _ (m : Modem) where
   pub countsIdle-unsuited : isUnsuited (m .state) (m .receiveon) (m .hasucid) (m .permission) ≡ true → countsIdle m ≡ true
   unfolding countsIdle isBroken isUnsuited
   countsIdle-unsuited h =
-      unsuited (isAt idle m) (ltb 6 (m .state)) (ltb 1 (m .permission)) (not (eqb (m .receiveon) (receiveMark m))) (ltb (retryMark m) (m .retryon)) (not (eqb (m .hasucid) (ucidMark m))) (ltb (m .permission) (leastPermission m)) (isSpoilt m) h
+      unsuited (isAt idle m) (ltb 6 (m .state)) (ltb 1 (m .permission)) (not (eqb (m .receiveon) (receiveMark m))) (ltb (retryMark m) (m .retryon)) (not (eqb (m .hasucid) (ucidMark m)))
+      (ltb (m .permission) (leastPermission m)) (isSpoilt m) h
 
   pub countsIdle-late : isLate (m .state) (m .permission) (m .retryon) (m .retry) ≡ true → countsIdle m ≡ true
   unfolding countsIdle isBroken isLate isHeldOver
   countsIdle-late h =
-      overdue (isAt idle m) (ltb 6 (m .state)) (ltb 1 (m .permission)) (not (eqb (m .receiveon) (receiveMark m))) (ltb (retryMark m) (m .retryon)) (not (eqb (m .hasucid) (ucidMark m))) (ltb (m .permission) (leastPermission m))
+      overdue (isAt idle m) (ltb 6 (m .state)) (ltb 1 (m .permission)) (not (eqb (m .receiveon) (receiveMark m))) (ltb (retryMark m) (m .retryon)) (not (eqb (m .hasucid) (ucidMark m)))
+      (ltb (m .permission) (leastPermission m))
       (eqb (m .tdsg1) 0) (eqb (m .tdsg2) 0) (isOver (receiveOf m)) (isOver (retryOf m)) h
 
   pub countsIdle-rest : eqb (m .tdsg1) 0 ≡ false → eqb (m .tdsg2) 0 ≡ false → isUnsuited (m .state) (m .receiveon) (m .hasucid) (m .permission) ≡ false
       → isLate (m .state) (m .permission) (m .retryon) (m .retry) ≡ false → countsIdle m ≡ isHeldOver (m .receiveon) (m .receive)
   unfolding countsIdle isBroken isUnsuited isLate isHeldOver
   countsIdle-rest ht hv hu hl =
-      sound (isAt idle m) (ltb 6 (m .state)) (ltb 1 (m .permission)) (not (eqb (m .receiveon) (receiveMark m))) (ltb (retryMark m) (m .retryon)) (not (eqb (m .hasucid) (ucidMark m))) (ltb (m .permission) (leastPermission m))
+      sound (isAt idle m) (ltb 6 (m .state)) (ltb 1 (m .permission)) (not (eqb (m .receiveon) (receiveMark m))) (ltb (retryMark m) (m .retryon)) (not (eqb (m .hasucid) (ucidMark m)))
+      (ltb (m .permission) (leastPermission m))
       (eqb (m .tdsg1) 0) (eqb (m .tdsg2) 0) (isOver (receiveOf m)) (isOver (retryOf m)) ht hv hu hl

@@ -37,7 +37,8 @@ module _ {A : Type 0} (d : A) where
   firstPlace-is ok [] h = absurd (omega arith)
   firstPlace-is ok (x ∷ xs) h = go (ok x) refl h (firstPlace-is ok xs)
     where
-      go : (b : Bool) → ok x ≡ b → cond b 0 (suc (firstPlace ok xs)) < suc (length xs) → (firstPlace ok xs < length xs → ok (getD xs (firstPlace ok xs) d) ≡ true) → ok (getD (x ∷ xs) (cond b 0 (suc (firstPlace ok xs))) d) ≡ true
+      go : (b : Bool) → ok x ≡ b → cond b 0 (suc (firstPlace ok xs)) < suc (length xs) → (firstPlace ok xs < length xs → ok (getD xs (firstPlace ok xs) d) ≡ true)
+          → ok (getD (x ∷ xs) (cond b 0 (suc (firstPlace ok xs))) d) ≡ true
       go true e l below = e
       go false e l below = below (omega arith)
 

@@ -95,7 +95,8 @@ module _ {A : Type 0} (pr nu : A → ℕ) (ok : A → Bool) where
         go : (o l : Bool) → ok w ≡ o → before w x ≡ l → Leads more (after b (length xs) w)
         go false l eo el = kept (simp (eo, and-false)) (λ e. absurd (clash e eo))
         go true false eo el = kept (rw eb (simp (ne-eqb (length pre) 32 (λ e. omega (arith, small)), el))) (λ e. el)
-        go true true eo el = leader xs w [] refl (rw eb (simp (eo, ne-eqb (length pre) 32 (λ e. omega (arith, small)), el))) eo (λ y t. over el y (List·Memᴰ·append-cases pre (rw exs at t))) (λ y t e. absurd (List·Memᴰ·not-nil t))
+        go true true eo el = leader xs w [] refl (rw eb (simp (eo, ne-eqb (length pre) 32 (λ e. omega (arith, small)), el))) eo (λ y t. over el y (List·Memᴰ·append-cases pre (rw exs at t)))
+            (λ y t e. absurd (List·Memᴰ·not-nil t))
 
   leads : (rest xs : List A) (b : Best) → Leads xs b → length xs + length rest ≤ 32 → Leads (xs ++ rest) (scan b (length xs) rest)
   unfolding scan

@@ -91,7 +91,8 @@ module _ (t : Table) (rule : Rule) (frame : List ℕ) where
 
 pub data Decided (t : Table) (rule : Rule) (frame : List ℕ) : Type 0 where
   match : firstPlace (matchesFrame frame) (namedInOrder t rule) < length (namedInOrder t rule) → matchPlace t rule frame < length (classifiersOf t)
-      → getD (namedInOrder t rule) (firstPlace (matchesFrame frame) (namedInOrder t rule)) emptyClassifier .number ≡ getD (classifiersOf t) (matchPlace t rule frame) emptyClassifier .number → Decided t rule frame
+      → getD (namedInOrder t rule) (firstPlace (matchesFrame frame) (namedInOrder t rule)) emptyClassifier .number ≡ getD (classifiersOf t) (matchPlace t rule frame) emptyClassifier .number
+      → Decided t rule frame
   nothing : length (namedInOrder t rule) ≤ firstPlace (matchesFrame frame) (namedInOrder t rule) → length (classifiersOf t) ≤ matchPlace t rule frame → Decided t rule frame
 
 module _ (t : Table) (rule : Rule) (frame : List ℕ) where
@@ -123,7 +124,8 @@ module _ (t : Table) (rule : Rule) (frame : List ℕ) where
     matches = and-yes (matchesFrame frame z) (named t rule frame z) passes .0
 
   -- the first match of the ordered list is a member of the table that passes
-  of-first : first t rule frame < length (namedInOrder t rule) → List·Memᴰ (getD (namedInOrder t rule) (first t rule frame) emptyClassifier) (classifiersOf t) × (ok t rule frame (getD (namedInOrder t rule) (first t rule frame) emptyClassifier) ≡ true)
+  of-first : first t rule frame < length (namedInOrder t rule)
+      → List·Memᴰ (getD (namedInOrder t rule) (first t rule frame) emptyClassifier) (classifiersOf t) × (ok t rule frame (getD (namedInOrder t rule) (first t rule frame) emptyClassifier) ≡ true)
   of-first h =
       let x = getD (namedInOrder t rule) (first t rule frame) emptyClassifier in
       let o = of-mine t rule frame x (mem-at emptyClassifier (namedInOrder t rule) (first t rule frame) h) in

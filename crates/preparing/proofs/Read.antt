@@ -54,7 +54,8 @@ count-tunnelOf mode address es h = simp (le-ltb 32 (length es) h)
 pub entriesOf-tunnelOf : (mode address : ℕ) (es : List Entry) → length es ≤ 32 → entriesOf (tunnelOf mode address es) ≡ es
 unfolding entriesOf
 entriesOf-tunnelOf mode address es h =
-    rw (count-tunnelOf mode address es h) (listFrom-is (λ i. entryAt (tunnelOf mode address es) i) zeroEntry 0 es (λ j l. ap (λ (i : ℕ). entryAt (tunnelOf mode address es) i) (zero-add j) ∙ at-tunnelOf mode address es j l))
+    rw (count-tunnelOf mode address es h) (listFrom-is (λ i. entryAt (tunnelOf mode address es) i) zeroEntry 0 es
+    (λ j l. ap (λ (i : ℕ). entryAt (tunnelOf mode address es) i) (zero-add j) ∙ at-tunnelOf mode address es j l))
 
 pub number-tunnelOf : (mode address : ℕ) (es : List Entry) (j : ℕ) → j < length es → getD (tunnelOf mode address es .numbers) j 0 ≡ getD es j zeroEntry .number
 unfolding tunnelOf

@@ -59,7 +59,8 @@ module _ (t : Table) (rule : Rule) (frame : List ℕ) where
         ≡ cond (ltb (matchPlace t rule frame) (length (classifiersOf t))) (Forward (getD (classifiersOf t) (matchPlace t rule frame) emptyClassifier .number)) Filtered
     matched = rw (entriesOf-tunnelOf mode address entries enough, place-same, count-tunnelOf mode address entries enough, length-map (namedInOrder t rule) entryOf) (go (decided t rule frame))
       where
-        go : Decided t rule frame → cond {A = Verdict} (ltb (first t rule frame) (length (namedInOrder t rule))) (Forward (getD (tunnelOf mode address entries .numbers) (first t rule frame) 0)) Filtered
+        go : Decided t rule frame → cond {A = Verdict} (ltb (first t rule frame) (length (namedInOrder t rule)))
+            (Forward (getD (tunnelOf mode address entries .numbers) (first t rule frame) 0)) Filtered
             ≡ cond (ltb (matchPlace t rule frame) (length (classifiersOf t))) (Forward (getD (classifiersOf t) (matchPlace t rule frame) emptyClassifier .number)) Filtered
         go (match h k e) =
             let l : first t rule frame < length entries = rw (length-map (namedInOrder t rule) entryOf) h in

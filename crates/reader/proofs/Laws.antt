@@ -135,7 +135,8 @@ module _ (g h : Table) (msg : List ℕ) where
   unfolding readTable
   readTable-verdict = on (ltb 23952 (length msg))
     where
-      on : (b : Bool) → cond b (refusal 3 0 g) (readRow g msg (rowIn msg 0 (length msg)) emptyTally emptyTable) .verdict ≡ cond b (refusal 3 0 h) (readRow h msg (rowIn msg 0 (length msg)) emptyTally emptyTable) .verdict
+      on : (b : Bool) → cond b (refusal 3 0 g) (readRow g msg (rowIn msg 0 (length msg)) emptyTally emptyTable) .verdict
+          ≡ cond b (refusal 3 0 h) (readRow h msg (rowIn msg 0 (length msg)) emptyTally emptyTable) .verdict
       on true = refl
       on false = row-verdict (rowIn msg 0 (length msg)) emptyTally emptyTable
 

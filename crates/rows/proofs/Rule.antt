@@ -25,7 +25,8 @@ module _ (R S : ℕ → ℕ → ℕ → ℕ → List ℕ → Fault) (msg : List 
   turn-same : (len : ℕ) → at + 2 + len ≤ end → turn R msg parent own at end t len ≡ turn S msg parent own at end t len
   turn-same len fits =
       ap (λ (i : ℕ → Fault). goOn (elementWith i msg parent at len t) (λ s. R parent own (at + 2 + len) end (noted t s))) (fun-ext (λ k. same k at (at + 2) (at + 2 + len) noneCounted (omega arith)))
-      ∙ ap (λ (j : Step → Fault). goOn (elementWith (λ k. S k at (at + 2) (at + 2 + len) noneCounted) msg parent at len t) j) (fun-ext (λ s. same parent own (at + 2 + len) end (noted t s) (omega arith)))
+      ∙ ap (λ (j : Step → Fault). goOn (elementWith (λ k. S k at (at + 2) (at + 2 + len) noneCounted) msg parent at len t) j)
+      (fun-ext (λ s. same parent own (at + 2 + len) end (noted t s) (omega arith)))
 
   step-same : rowStep R msg parent own at end t ≡ rowStep S msg parent own at end t
   unfolding rowStep

@@ -38,7 +38,8 @@ pub count-short : (word : List ℕ) (k limit : ℕ) {n : ℕ} → n ≤ limit �
 count-short word k limit h t = field-short word k (lt-of-le-of-lt h (ltb→lt limit (10 ^ suc k) t)) (le→leb (10 ^ suc k) (10 ^ suc k) (le-refl (10 ^ suc k)))
 
 -- what follows the first text is told that it has room
-pub lined-then : {out : List ℕ} {at : ℕ} {s t new last : List ℕ} {next end : ℕ} (m n : ℕ) → at + (m + n) ≤ length out → Lined m out at s new next → (next + n ≤ length new → Lined n new next t last end) → Lined (m + n) out at (s ++ t) last end
+pub lined-then : {out : List ℕ} {at : ℕ} {s t new last : List ℕ} {next end : ℕ} (m n : ℕ) → at + (m + n) ≤ length out → Lined m out at s new next
+    → (next + n ≤ length new → Lined n new next t last end) → Lined (m + n) out at (s ++ t) last end
 lined-then {out} {at} {s} m n h v follows =
     let w = follows (omega (arith, v .wrote .place, v .short .bytes, ap length (v .wrote .bytes) ∙ length-pasted out at s)) in
     let short = join-short m n (v .short) (w .short) in

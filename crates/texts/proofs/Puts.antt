@@ -35,7 +35,8 @@ put→wrote {text} {out} {new} {at} {next} h e =
 pub put-first : {s out new : List ℕ} {at next : ℕ} (t : List ℕ) → Fits out at (s ++ t) → record { next = next; out = new } ≡ put s out at → Wrote out at s new next
 put-first t h e = put→wrote (fits-first t h) e
 
-pub put-last : {s out new last : List ℕ} {at next end : ℕ} (t : List ℕ) → Fits out at (s ++ t) → Wrote out at s new next → record { next = end; out = last } ≡ put t new next → Wrote out at (s ++ t) last end
+pub put-last : {s out new last : List ℕ} {at next end : ℕ} (t : List ℕ) → Fits out at (s ++ t) → Wrote out at s new next → record { next = end; out = last } ≡ put t new next
+    → Wrote out at (s ++ t) last end
 put-last t h w e = wrote-then h w (put→wrote (fits-rest h w) e)
 
 -- a word and so many digits behind it: the test of the room, made without a sum

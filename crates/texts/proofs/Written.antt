@@ -50,7 +50,8 @@ pasted-then out at s t h =
     let e : at + length s + length t ≡ at + length (s ++ t) = omega (arith, length-append s t) in
     let f : at + length s ≤ length out = omega (arith, length-append s t) in
     let n : length (take at out ++ s) ≡ at + length s = length-append (take at out) s ∙ ap (λ (k : ℕ). k + length s) (length-take-le at out (omega arith)) in
-    let front : take (at + length s) (pasted out at s) ≡ take at out ++ s = ap (take (at + length s)) (pasted-fits out at s f ∙ sym (append-assoc (take at out) s _)) ∙ take-at (take at out ++ s) _ (at + length s) n in
+    let front : take (at + length s) (pasted out at s) ≡ take at out ++ s = ap (take (at + length s)) (pasted-fits out at s f ∙ sym (append-assoc (take at out) s _))
+    ∙ take-at (take at out ++ s) _ (at + length s) n in
     let back : drop (at + length s + length t) (pasted out at s) ≡ drop (at + length (s ++ t)) out = drop-pasted out at s (at + length s + length t) (omega arith) ∙ ap (λ (k : ℕ). drop k out) e in
     pasted-fits (pasted out at s) (at + length s) t (omega (arith, length-pasted out at s))
     ∙ ap (λ (l : List ℕ). l ++ (t ++ drop (at + length s + length t) (pasted out at s))) front

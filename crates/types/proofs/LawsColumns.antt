@@ -53,7 +53,8 @@ unfolding knownTypes childOf under placed table lineAt
 place-at i h = place-from placed 0 i h ∙ omega arith
 
 -- what the columns say together
-pub known-at : (i : ℕ) → i < 26 → {s : Length} {r : Bool} {v : Values} {m l : ℕ} → s ≡ lineAt i .size → r ≡ lineAt i .repeats → v ≡ lineAt i .values → m ≡ lineAt i .room → l ≡ lineAt i .list → _≡_ {A = Known} (record { place = i; length = s; repeats = r; values = v; room = m; list = l }) (knownAt i)
+pub known-at : (i : ℕ) → i < 26 → {s : Length} {r : Bool} {v : Values} {m l : ℕ} → s ≡ lineAt i .size → r ≡ lineAt i .repeats → v ≡ lineAt i .values → m ≡ lineAt i .room → l ≡ lineAt i .list
+    → _≡_ {A = Known} (record { place = i; length = s; repeats = r; values = v; room = m; list = l }) (knownAt i)
 unfolding knownAt
 known-at i h a b d f g = simp (a, b, d, f, g, place-at i h)
 
@@ -61,13 +62,15 @@ known-at i h a b d f g = simp (a, b, d, f, g, place-at i h)
 abbrev listsAre : ℕ → ℕ → (ℕ → ℕ) → Line → Bool
 listsAre from after f l = cond (leb from (l .place)) (cond (ltb (l .place) after) (eqb (l .list) (f (l .place))) true) true
 
-pub list-at : (from after : ℕ) (f : ℕ → ℕ) → map (listsAre from after f) lines ≡ map (λ l. true) lines → listsAre from after f noLine ≡ true → (k : ℕ) → k < 26 → from ≤ k → k < after → f k ≡ lineAt k .list
+pub list-at : (from after : ℕ) (f : ℕ → ℕ) → map (listsAre from after f) lines ≡ map (λ l. true) lines → listsAre from after f noLine ≡ true → (k : ℕ) → k < 26 → from ≤ k → k < after → f k
+    ≡ lineAt k .list
 unfolding lineAt
 list-at from after f e z k h a b =
     let t : listsAre from after f (lineAt k) ≡ true = rw table-lines (map-at (listsAre from after f) (λ l. true) lines noLine k e z) in
     sym (eqb-true _ _ (simp (place-at k h, le-leb _ _ a, lt-ltb _ _ b) at t))
 
 -- the same where the types of a row have a list each, said of what the code found
-pub own-list : (from after : ℕ) → map (listsAre from after (λ k. k - from)) lines ≡ map (λ l. true) lines → listsAre from after (λ k. k - from) noLine ≡ true → {p r l : ℕ} → r ≡ p → (p < 26 → l ≡ p - from) → from ≤ p → (p < 26 → p < after) → r < 26 → l ≡ lineAt r .list
+pub own-list : (from after : ℕ) → map (listsAre from after (λ k. k - from)) lines ≡ map (λ l. true) lines → listsAre from after (λ k. k - from) noLine ≡ true → {p r l : ℕ} → r ≡ p
+    → (p < 26 → l ≡ p - from) → from ≤ p → (p < 26 → p < after) → r < 26 → l ≡ lineAt r .list
 own-list from after e z {p} x y a b h =
     let g : p < 26 = omega arith in y g ∙ rw x (list-at from after (λ k. k - from) e z p g a (b g))

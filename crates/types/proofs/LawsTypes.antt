@@ -84,6 +84,7 @@ follow row [] = knownAt 26
 follow row (t ∷ []) = typeUnder row t
 follow row (t ∷ u ∷ p) = follow (typeUnder row t .place) (u ∷ p)
 
-pub typeUnder-finds : map (λ e. follow 26 (e .path)) knownTypes ≡ map (λ e. record { place = follow 26 (e .path) .place; length = e .size; repeats = e .repeats; values = e .values; room = e .room; list = e .list }) knownTypes
+pub typeUnder-finds : map (λ e. follow 26 (e .path)) knownTypes
+    ≡ map (λ e. record { place = follow 26 (e .path) .place; length = e .size; repeats = e .repeats; values = e .values; room = e .room; list = e .list }) knownTypes
 unfolding follow typeUnder placeIn knownAt lineAt table knownTypes childOf under placed typeOf parentIn
 typeUnder-finds = refl

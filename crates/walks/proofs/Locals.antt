@@ -152,7 +152,8 @@ module _ {M : Type 1} (𝓤 : URA M) (H : Heap 𝓤) (A : Atoms 𝓤) (W : Given
   ended (e ∷ E) (v ∷ vs) P =
       via 𝓤 (sep 𝓤 (sep 𝓤 (H .room (e .0) (e .1) zero) (places E vs)) (sep 𝓤 (dying 𝓤 H (e ∷ E)) P))
       (monoL 𝓤 (sep 𝓤 (dying 𝓤 H (e ∷ E)) P)
-      (via 𝓤 (sep 𝓤 (H .at fullShare (e .0) (e .1) zero v) (places E vs)) (pop 𝓤 H A (‵ (fat fullShare (e .0) (e .1) zero v)) (stored E vs)) (monoL 𝓤 (places E vs) (W .laws .at-room (e .0) (e .1) zero v))))
+      (via 𝓤 (sep 𝓤 (H .at fullShare (e .0) (e .1) zero v) (places E vs)) (pop 𝓤 H A (‵ (fat fullShare (e .0) (e .1) zero v)) (stored E vs))
+      (monoL 𝓤 (places E vs) (W .laws .at-room (e .0) (e .1) zero v))))
       (ended-one e E vs P (ended E vs P))
 
 module _ {M : Type 1} {𝓤 : URA M} where

@@ -13,7 +13,8 @@ returns : tie.Need-returns
 returns c =
     let left = c .before .before .before .before .before .before .receive-alone .ensures in
     c .before .before .list-report .ensures
-    ∙ ap (λ (text : List ℕ). listing text (c .before .before .before .before .before .before .before .before .before .args .out .now)) (bodyText-from _ (left .0) (c .before .before .before .before .count-of .ensures) (left .1))
+    ∙ ap (λ (text : List ℕ). listing text (c .before .before .before .before .before .before .before .before .before .args .out .now))
+    (bodyText-from _ (left .0) (c .before .before .before .before .count-of .ensures) (left .1))
 
 pub list-body-spec : {M : Type 1} → statement M
 list-body-spec = tie.close (tie.spec (λ c κs. search needs) (λ c κs. search needs) (λ c κs. search needs) (λ c. search needs) returns)

@@ -9,7 +9,9 @@ use Rattle.bodies.proofs.receive_alone.Tie as tie
 
 returns : tie.Need-returns
 returns c =
-    let had = received-from _ (c .before .before .before .before .before .before .empty-collection .ensures) (c .before .before .before .before .before .empty-table .ensures) (c .before .before .before .before .before .before .before .before .zero-buffer .ensures) (c .before .before .before .before .before .before .before .zero-buffer2 .ensures) (c .before .before .receive .ensures) in
+    let had = received-from _ (c .before .before .before .before .before .before .empty-collection .ensures) (c .before .before .before .before .before .empty-table .ensures)
+    (c .before .before .before .before .before .before .before .before .zero-buffer .ensures) (c .before .before .before .before .before .before .before .zero-buffer2 .ensures)
+    (c .before .before .receive .ensures) in
     (ap (λ (h : Had). h .report) had, ap (λ (h : Had). h .table) had)
 
 pub receive-alone-spec : {M : Type 1} → statement M

@@ -38,7 +38,8 @@ lists-client-spec =
     (λ c. search needs)
     (λ c. search needs)
     (λ c κs. search needs)
-    (λ c. sym (anyOf-found _ _ _ _ _ (c .before .before .before .if1 .left) (omega arith) (sym (c .before .is-client .ensures) ∙ c .if2 .taken)) ∙ c .before .before .before .before .before .loop .inv .3)
+    (λ c. sym (anyOf-found _ _ _ _ _ (c .before .before .before .if1 .left) (omega arith) (sym (c .before .is-client .ensures) ∙ c .if2 .taken))
+    ∙ c .before .before .before .before .before .loop .inv .3)
     (λ c. search needs)
     (λ c. search needs)
     (λ c. let inv = c .before .before .before .before .before .loop .inv in

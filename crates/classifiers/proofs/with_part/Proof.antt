@@ -36,4 +36,5 @@ with-part-spec =
     (λ c. let fits = item-fits _ _ _ (c .before .before .before .before .read-head .ensures) (c .before .before .len .given .1) in omega arith)
     (λ c. let fits = item-fits _ _ _ (c .before .before .before .before .read-head .ensures) (c .before .before .len .given .1) in omega arith)
     (λ c. item-less _ _ _ (c .before .before .before .before .read-head .ensures) (c .before .before .len .given .1))
-    (λ c. fold-item _ _ _ _ _ (c .before .before .before .before .read-head .ensures) (c .before .before .len .given .1) (c .with-part-child .ensures) ∙ c .before .before .before .before .before .loop .inv))
+    (λ c. fold-item _ _ _ _ _ (c .before .before .before .before .read-head .ensures) (c .before .before .len .given .1) (c .with-part-child .ensures)
+    ∙ c .before .before .before .before .before .loop .inv))

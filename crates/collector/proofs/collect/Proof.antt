@@ -70,7 +70,8 @@ returns-3 c =
     let from = c .before .before .before .before .before .before .before .base .result in
     c .before .before .before .before .accept .ensures
     ∙ ap (λ (l : List ℕ). storedStep from (now (a .slots)) (now (a .join)) (slotOf b) l) (rest-all b 3)
-    ∙ step-stored (a .held) (now (a .slots)) (now (a .join)) b (ok s) _ (how-is r) (c .before .before .before .before .before .before .before .before .if2 .left) from (c .before .before .before .before .before .before .before .base .ensures)
+    ∙ step-stored (a .held) (now (a .slots)) (now (a .join)) b (ok s) _ (how-is r) (c .before .before .before .before .before .before .before .before .if2 .left) from
+    (c .before .before .before .before .before .before .before .base .ensures)
 
 pub collect-spec : {M : Type 1} → statement M
 collect-spec =

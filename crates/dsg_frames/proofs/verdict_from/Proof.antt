@@ -18,4 +18,5 @@ returns-4 : tie.Need-returns-4
 returns-4 c = rw (c .enum-told2 .given .1)
 
 pub verdict-from-spec : {M : Type 1} → statement M
-verdict-from-spec = tie.close (tie.spec (λ c. search needs) (λ c. search needs) (λ c. search needs) (λ c. search needs) (λ c. search needs) (λ c κs. search needs) (λ c. search needs) returns returns-2 returns-3 returns-4)
+verdict-from-spec = tie.close (tie.spec (λ c. search needs) (λ c. search needs) (λ c. search needs) (λ c. search needs) (λ c. search needs) (λ c κs. search needs)
+    (λ c. search needs) returns returns-2 returns-3 returns-4)

@@ -29,4 +29,5 @@ is-listed-spec =
     (λ c. search needs)
     (λ c. search needs)
     (λ c. (search needs, search needs, ⊎-elim (λ w. w .1 ∙ among-hit _ (c .before .before .before .before .before .args .list .now) (c .before .before .before .loop .i) (w .0 .taken)) (λ w. w .1 ∙ c .before .before .before .loop .inv .2 ∙ among-miss _ (c .before .before .before .before .before .args .list .now) (c .before .before .before .loop .i) (w .0 .left)) (c .if1 .came)))
-    (λ c. let e : c .before .loop .i ≡ c .before .before .limited .result = omega arith in c .before .loop .inv .2 ∙ ap (λ (n : ℕ). isAmong (c .before .before .before .args .number) n (c .before .before .before .args .list .now)) (e ∙ c .before .before .limited .ensures)))
+    (λ c. let e : c .before .loop .i ≡ c .before .before .limited .result = omega arith in c .before .loop .inv .2
+    ∙ ap (λ (n : ℕ). isAmong (c .before .before .before .args .number) n (c .before .before .before .args .list .now)) (e ∙ c .before .before .limited .ensures)))

@@ -32,4 +32,6 @@ counts-idle-spec =
     -- the receive mark is 0 or 1
     (λ c κs. isUnsuited→mark _ _ _ _ (sym (c .before .is-unsuited .ensures) ∙ c .if4 .left))
     -- the receive timer
-    (λ c. c .is-held-over .ensures ∙ sym (countsIdle-rest _ (ne-eqb _ _ (c .before .before .before .before .before .before .before .if1 .left)) (ne-eqb _ _ (c .before .before .before .before .before .if2 .left)) (sym (c .before .before .is-unsuited .ensures) ∙ c .before .if4 .left) (sym (c .before .before .before .before .is-late .ensures) ∙ c .before .before .before .if3 .left))))
+    (λ c. c .is-held-over .ensures ∙ sym (countsIdle-rest _ (ne-eqb _ _ (c .before .before .before .before .before .before .before .if1 .left))
+    (ne-eqb _ _ (c .before .before .before .before .before .if2 .left)) (sym (c .before .before .is-unsuited .ensures) ∙ c .before .if4 .left)
+    (sym (c .before .before .before .before .is-late .ensures) ∙ c .before .before .before .if3 .left))))

@@ -20,7 +20,9 @@ tick-spec =
     (λ c. rw (c .go2 .ensures, ← c .before .before .before .before .is-four .ensures, c .before .before .before .if1 .left, c .before .if2 .taken))
     (λ c κs. search needs)
     -- OneWay, retry at 0, permitted
-    (λ c. let c2 = c .before .before .before .before .before .before in rw (c .go3 .ensures, ← c2 .before .before .before .is-four .ensures, c2 .before .before .if1 .left, c2 .if2 .left, c .before .if3 .taken))
+    (λ c. let c2 = c .before .before .before .before .before .before in rw
+    (c .go3 .ensures, ← c2 .before .before .before .is-four .ensures, c2 .before .before .if1 .left, c2 .if2 .left, c .before .if3 .taken))
     (λ c κs. search needs)
     -- nothing is at 0
-    (λ c. let c2 = c .before .before .before .before .before .before in rw (c .keep .ensures, ← c2 .before .before .before .is-four .ensures, c2 .before .before .if1 .left, c2 .if2 .left, c .before .if3 .left)))
+    (λ c. let c2 = c .before .before .before .before .before .before in rw
+    (c .keep .ensures, ← c2 .before .before .before .is-four .ensures, c2 .before .before .if1 .left, c2 .if2 .left, c .before .if3 .left)))

@@ -27,4 +27,5 @@ gate-spec =
     -- 18
     (λ c. rw (← c .before .is-start2 .ensures, c .if4 .left, ← c .before .before .before .before .before .counts-idle .ensures, c .before .before .before .before .if1 .left, ← c .before .before .before .is-back .ensures, c .before .before .if3 .taken))
     -- it acts
-    (λ c. let x = c .before .before .before .before .args in rw (← c .before .before .before .counts-idle .ensures, c .before .before .if1 .left, ← c .before .is-back .ensures, c .if3 .left) (sym (cond-zero (eqb (x .kind) 1 && ltb (x .a) 2)))))
+    (λ c. let x = c .before .before .before .before .args in rw (← c .before .before .before .counts-idle .ensures, c .before .before .if1 .left, ← c .before .is-back .ensures, c .if3 .left)
+    (sym (cond-zero (eqb (x .kind) 1 && ltb (x .a) 2)))))

@@ -53,7 +53,9 @@ pub +put-decimal-spec : {M : Type 1} → statement M
     (λ c. wrote-same (sym (one (c .before .before .before .before .before .if1 .taken) (c .before .before .before .before .glyph .ensures))) (c .before .before .put-byte .ensures))
     (λ c κs. (omega arith, fits-first _ (fits-same (decimal-more _ (c .before .if1 .left)) (c .before .before .before .pre .1))))
     (λ c κs. omega arith)
-    (λ c κs. fits-rest (fits-same (more (c .before .before .before .before .before .before .if1 .left) (c .before .glyph2 .ensures)) (c .before .before .before .before .before .before .before .before .pre .1)) (c .before .before .before .before .put-decimal .ensures))
+    (λ c κs. fits-rest (fits-same (more (c .before .before .before .before .before .before .if1 .left) (c .before .glyph2 .ensures))
+    (c .before .before .before .before .before .before .before .before .pre .1)) (c .before .before .before .before .put-decimal .ensures))
     (λ c. search needs)
     (λ c. let e = more (c .before .before .before .before .before .before .before .before .before .if1 .left) (c .before .before .before .before .glyph2 .ensures) in
-    wrote-same (sym e) (wrote-then (fits-same e (c .before .before .before .before .before .before .before .before .before .before .before .pre .1)) (c .before .before .before .before .before .before .before .put-decimal .ensures) (c .before .before .put-byte2 .ensures)))
+    wrote-same (sym e) (wrote-then (fits-same e (c .before .before .before .before .before .before .before .before .before .before .before .pre .1))
+    (c .before .before .before .before .before .before .before .put-decimal .ensures) (c .before .before .put-byte2 .ensures)))

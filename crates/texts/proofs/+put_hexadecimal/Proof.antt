@@ -47,7 +47,9 @@ pub +put-hexadecimal-spec : {M : Type 1} → statement M
     (λ c. omega arith)
     (λ c κs. (omega arith, fits-first _ (fits-same (hexadecimal-more _ _ (c .before .if1 .left)) (c .before .before .before .pre .1))))
     (λ c κs. omega arith)
-    (λ c κs. fits-rest (fits-same (more _ (c .before .before .before .before .before .before .if1 .left) (c .before .glyph .ensures)) (c .before .before .before .before .before .before .before .before .pre .1)) (c .before .before .before .before .put-hexadecimal .ensures))
+    (λ c κs. fits-rest (fits-same (more _ (c .before .before .before .before .before .before .if1 .left) (c .before .glyph .ensures))
+    (c .before .before .before .before .before .before .before .before .pre .1)) (c .before .before .before .before .put-hexadecimal .ensures))
     (λ c. search needs)
     (λ c. let e = more _ (c .before .before .before .before .before .before .before .before .before .if1 .left) (c .before .before .before .before .glyph .ensures) in
-    wrote-same (sym e) (wrote-then (fits-same e (c .before .before .before .before .before .before .before .before .before .before .before .pre .1)) (c .before .before .before .before .before .before .before .put-hexadecimal .ensures) (c .before .before .put-byte .ensures)))
+    wrote-same (sym e) (wrote-then (fits-same e (c .before .before .before .before .before .before .before .before .before .before .before .pre .1))
+    (c .before .before .before .before .before .before .before .put-hexadecimal .ensures) (c .before .before .put-byte .ensures)))

@@ -32,7 +32,8 @@ find-top-spec =
     (λ c κs. search needs)
     (λ c κs. search needs)
     known-at-requires
-    (λ c. c .known-at .ensures ∙ ap knownAt (sym (placeIn-here _ 3 (c .before .before .before .before .loop-test .taken) _ _ (c .before .before .before .stands-at .ensures) (c .before .before .if1 .taken)) ∙ c .before .before .before .before .before .loop .inv .1))
+    (λ c. c .known-at .ensures ∙ ap knownAt (sym (placeIn-here _ 3 (c .before .before .before .before .loop-test .taken) _ _ (c .before .before .before .stands-at .ensures)
+    (c .before .before .if1 .taken)) ∙ c .before .before .before .before .before .loop .inv .1))
     (λ c. search needs)
     (λ c. search needs)
     (λ c. (omega arith, sym (placeIn-other _ 3 (c .before .before .loop-test .taken) _ _ (c .before .stands-at .ensures) (c .if1 .left)) ∙ c .before .before .before .loop .inv .1))

@@ -21,7 +21,8 @@ returns-3 c = length-named _ (column-at _ (c .before .pre) (λ l. lengthNumber (
 returns-4 : tie.Need-returns-4
 unfolding lines
 returns-4 c =
-    length-bytes _ (column-at _ (c .before .before .pre) (λ l. lengthNumber (l .size)) 0) (c .wide .ensures) (c .before .match .rest .0 .0 .1) (c .before .match .rest .0 .1) (c .before .match .rest .1)
+    length-bytes _ (column-at _ (c .before .before .pre) (λ l. lengthNumber (l .size)) 0) (c .wide .ensures) (c .before .match .rest .0 .0 .1) (c .before .match .rest .0 .1)
+    (c .before .match .rest .1)
 
 pub length-at-spec : {M : Type 1} → statement M
 length-at-spec = tie.close (tie.spec (λ c. search needs) (λ c κs. search needs) returns returns-2 returns-3 returns-4)

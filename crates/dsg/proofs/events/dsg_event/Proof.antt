@@ -38,7 +38,9 @@ module _ {M : Type 1} (𝓤 : URA M) (H : Heap 𝓤) (A : Atoms 𝓤) (mem : Mem
   Callee = tripleOf 𝓤 H A event-value.signature (event-value.spec 𝓤 H A mem run)
 
 module _ {M : Type 1} (𝓤 : URA M) (H : Heap 𝓤) (A : Atoms 𝓤) (W : Given 𝓤 H A) (at-mem : Memory → SProp 𝓤) (run : Routine → Fun 𝓤)
-    (κ0 : Lft) (q0 : Share) (b o : ℕ) (γ : GName) (h : Modem) (p1 : ℕ) (p2 : ℕ) (p3 : ℕ) (p4 : ℕ) (p5 : ℕ) (p6 : ℕ) (is-p1 : Is u32 p1 (vint w32 p1 ∷ [])) (is-p2 : Is u8 p2 (vint w8 p2 ∷ [])) (is-p3 : Is u16 p3 (vint w16 p3 ∷ [])) (is-p4 : Is u16 p4 (vint w16 p4 ∷ [])) (is-p5 : Is u16 p5 (vint w16 p5 ∷ [])) (is-p6 : Is u16 p6 (vint w16 p6 ∷ [])) where
+    (κ0 : Lft) (q0 : Share) (b o : ℕ) (γ : GName) (h : Modem) (p1 : ℕ) (p2 : ℕ) (p3 : ℕ) (p4 : ℕ) (p5 : ℕ) (p6 : ℕ) (is-p1 : Is u32 p1 (vint w32 p1 ∷ []))
+    (is-p2 : Is u8 p2 (vint w8 p2 ∷ [])) (is-p3 : Is u16 p3 (vint w16 p3 ∷ [])) (is-p4 : Is u16 p4 (vint w16 p4 ∷ [])) (is-p5 : Is u16 p5 (vint w16 p5 ∷ []))
+    (is-p6 : Is u16 p6 (vint w16 p6 ∷ [])) where
   abbrev Arg : Type 0
   Arg = RefT Modem × (ℕ × (ℕ × (ℕ × (ℕ × (ℕ × (ℕ × (Unit {0})))))))
 
@@ -59,7 +61,8 @@ module _ {M : Type 1} (𝓤 : URA M) (H : Heap 𝓤) (A : Atoms 𝓤) (W : Given
   exits : (r : EventStepped) → r ≡ eventStepped h p1 p2 p3 p4 p5 p6 → Is u32 (r .number) (vint w32 (r .number) ∷ []) → ent 𝓤 (⋆ 𝓤 H A (left r)) (Post (vint w32 (r .number)))
   exits r eq is-n =
       qed W (left r) ∵
-      suffices ! _ (ends-at 𝓤 H A dsg-event.ended stayed (dsg-event.clauses 𝓤 H A at-mem run) W (((κ0, tt), (q0, tt), tt, x, at), tt) (vint w32 (r .number)) (r .number) (r .modem, (tt, (tt, (tt, (tt, (tt, (tt, tt))))))) (tt, (tt, (tt, (tt, (tt, (tt, (tt, tt)))))))) $
+      suffices ! _ (ends-at 𝓤 H A dsg-event.ended stayed (dsg-event.clauses 𝓤 H A at-mem run) W (((κ0, tt), (q0, tt), tt, x, at), tt) (vint w32 (r .number)) (r .number)
+      (r .modem, (tt, (tt, (tt, (tt, (tt, (tt, tt))))))) (tt, (tt, (tt, (tt, (tt, (tt, (tt, tt)))))))) $
       says ! eq $ move ! (2 ∷ 3 ∷ []) $ join ! $ frame ! $ feqI ! (List Val) (vptr b o ∷ []) (vptr b o ∷ []) refl $ fjoin3 ! $ nothing ! $
       owned ! u16 (Is u16) (uint-makes 𝓤 H A W w16) p6 _ is-p6 $ fjoin ! $ owned ! u16 (Is u16) (uint-makes 𝓤 H A W w16) p5 _ is-p5 $ fjoin ! $
       owned ! u16 (Is u16) (uint-makes 𝓤 H A W w16) p4 _ is-p4 $ fjoin ! $ owned ! u16 (Is u16) (uint-makes 𝓤 H A W w16) p3 _ is-p3 $ fjoin ! $
@@ -78,24 +81,34 @@ module _ {M : Type 1} (𝓤 : URA M) (H : Heap 𝓤) (A : Atoms 𝓤) (W : Given
       owned ! D0.the-row (Is D0.the-row) (LL.makes D0.the-type D0′.the-plain 𝓤 H A) h _ was $ fjoin ! $ nothing ! $ join ! $ frame ! $ done !
 
   module _ (C : Calls 𝓤 H) (Λ : Loops 𝓤 H) (fm : FmC 𝓤 H (W .laws) C) (known : Triple 𝓤 (C #dsg_events·event-value) (Callee 𝓤 H A at-mem run)) where
-    walk : ent 𝓤 (onEntry 𝓤 H A dsg-event.signature (κ0, tt) (q0, tt) x at) (WpFn 𝓤 H C Λ code.function (vptr b o ∷ vint w32 p1 ∷ vint w8 p2 ∷ vint w16 p3 ∷ vint w16 p4 ∷ vint w16 p5 ∷ vint w16 p6 ∷ []) Post)
+    walk : ent 𝓤 (onEntry 𝓤 H A dsg-event.signature (κ0, tt) (q0, tt) x at)
+        (WpFn 𝓤 H C Λ code.function (vptr b o ∷ vint w32 p1 ∷ vint w8 p2 ∷ vint w16 p3 ∷ vint w16 p4 ∷ vint w16 p5 ∷ vint w16 p6 ∷ []) Post)
     walk =
         qed W ((‵ (flft κ0 q0) ⊛ ‵ ftrue) ∷ ‵ (owns (MutRef (named 0) κ0 D0.the-row ∷ u32 ∷ u8 ∷ u16 ∷ u16 ∷ u16 ∷ u16 ∷ []) x at) ∷ []) ∵
         begins ! C Λ code.function (vptr b o ∷ vint w32 p1 ∷ vint w8 p2 ∷ vint w16 p3 ∷ vint w16 p4 ∷ vint w16 p5 ∷ vint w16 p6 ∷ []) _
         (λ l0 l1 l2 l3 l4 l5 l6 l7 l8 l9. (
           ((tt, tt), ((uint-lawful 𝓤 H A W w32 .typed p1 _ is-p1 .0), ((uint-lawful 𝓤 H A W w8 .typed p2 _ is-p2 .0), ((uint-lawful 𝓤 H A W w16 .typed p3 _ is-p3 .0), ((uint-lawful 𝓤 H A W w16 .typed p4 _ is-p4 .0), ((uint-lawful 𝓤 H A W w16 .typed p5 _ is-p5 .0), ((uint-lawful 𝓤 H A W w16 .typed p6 _ is-p6 .0), tt))))))),
           move ! (1 ∷ []) $ fsplit ! $ fsplit3 ! $ drop ! $ move ! (3 ∷ []) $ split ! $
-              move ! (2 ∷ 3 ∷ 0 ∷ []) $ opens ! tt D0.the-row {h = h} b o (λ vs0. spelt ! D0.the-row (Is D0.the-row) (shows 𝓤 H A D0.the-row) (LL.vals D0.the-type D0′.the-laws) (LL.tells D0.the-type D0′.the-laws) fullShare h vs0 b o $
-              move ! (1 ∷ []) $ peeks ! D0.the-row (Is D0.the-row) (shows 𝓤 H A D0.the-row) h (LL.val D0.the-type D0′.the-laws h ∷ []) (λ was. sets ! (reads-behind ! 8 refl 1 refl) 16 refl (LL.lawful D0.the-type D0′.the-laws 𝓤 H A W .typed h _ was .0) $
+              move ! (2 ∷ 3 ∷ 0 ∷ []) $ opens ! tt D0.the-row {h = h} b o
+              (λ vs0. spelt ! D0.the-row (Is D0.the-row) (shows 𝓤 H A D0.the-row) (LL.vals D0.the-type D0′.the-laws) (LL.tells D0.the-type D0′.the-laws) fullShare h vs0 b o $
+              move ! (1 ∷ []) $ peeks ! D0.the-row (Is D0.the-row) (shows 𝓤 H A D0.the-row) h (LL.val D0.the-type D0′.the-laws h ∷ [])
+              (λ was. sets ! (reads-behind ! 8 refl 1 refl) 16 refl (LL.lawful D0.the-type D0′.the-laws 𝓤 H A W .typed h _ was .0) $
               use0 W (raw (Callee 𝓤 H A at-mem run .pre to)) (goes-in was) $
-              calls-at ! fm (Callee 𝓤 H A at-mem run) known to (and-then ! (reads ! 17 refl) (and-then ! (reads ! 10 refl) (and-then ! (reads ! 11 refl) (and-then ! (reads ! 12 refl) (and-then ! (reads ! 13 refl) (and-then ! (reads ! 14 refl) (and-then ! (reads ! 15 refl) (no-more !)))))))) (λ v.
-              use1 W (later (some (λ (r : EventStepped). (‵ ftrue ⊛ ‵ (D1.the-row .own r (v ∷ []))) ⊛ raw (ensured 𝓤 H A event-value.ended (event-value.clauses 𝓤 H A at-mem run) tt (h, (p1, (p2, (p3, (p4, (p5, (p6, tt))))))) tt r)))) (id⊢ 𝓤 _) $
-              await ! tt $ pick ! (λ r. split ! $ move ! (1 ∷ []) $ use1 W (some (λ (zs : (Unit {0} × (Unit {0} × (Unit {0} × (Unit {0} × (Unit {0} × (Unit {0} × (Unit {0} × Unit {0})))))))). ‵ (lasts event-value.ended tt (h, (p1, (p2, (p3, (p4, (p5, (p6, tt))))))) zs) ⊛ raw (fact 𝓤 (r ≡ eventStepped h p1 p2 p3 p4 p5 p6)))) (id⊢ 𝓤 _) $
+              calls-at ! fm (Callee 𝓤 H A at-mem run) known to
+              (and-then ! (reads ! 17 refl) (and-then ! (reads ! 10 refl)
+              (and-then ! (reads ! 11 refl) (and-then ! (reads ! 12 refl) (and-then ! (reads ! 13 refl) (and-then ! (reads ! 14 refl) (and-then ! (reads ! 15 refl) (no-more !))))))))
+              (λ v.
+              use1 W (later (some (λ (r : EventStepped). (‵ ftrue ⊛ ‵ (D1.the-row .own r (v ∷ [])))
+              ⊛ raw (ensured 𝓤 H A event-value.ended (event-value.clauses 𝓤 H A at-mem run) tt (h, (p1, (p2, (p3, (p4, (p5, (p6, tt))))))) tt r)))) (id⊢ 𝓤 _) $
+              await ! tt $ pick ! (λ r. split ! $ move ! (1 ∷ []) $
+              use1 W (some (λ (zs : (Unit {0} × (Unit {0} × (Unit {0} × (Unit {0} × (Unit {0} × (Unit {0} × (Unit {0} × Unit {0})))))))). ‵ (lasts event-value.ended tt
+              (h, (p1, (p2, (p3, (p4, (p5, (p6, tt))))))) zs) ⊛ raw (fact 𝓤 (r ≡ eventStepped h p1 p2 p3 p4 p5 p6)))) (id⊢ 𝓤 _) $
               pick ! (λ zs. split ! $ move ! (1 ∷ []) $ heard ! (r ≡ eventStepped h p1 p2 p3 p4 p5 p6) (λ eq.
               drop ! $ split ! $ move ! (7 ∷ []) $ drop ! $ move ! (1 ∷ []) $ peeks ! D1.the-row (Is D1.the-row) (shows 𝓤 H A D1.the-row) r (v ∷ []) (λ is.
               land ! (from ! (stop !)) (init ! 16 refl (LL.lawful D1.the-type D1′.the-laws 𝓤 H A W .typed r _ is .0)) $
               rewrite ! 16 (λ (u : Val). ‵ (fat fullShare D1′.mir l8 0 u)) (ap only (LL.tells D1.the-type D1′.the-laws r _ is)) refl $
-              assigns ! (reads-field ! 16 1 (LL.val D0.the-type D0′.the-laws (r .modem)) refl refl refl refl) (from ! (hop ! (look ! 9 refl) (stop !))) (store-raw ! 3 refl (LL.lawful D0.the-type D0′.the-laws 𝓤 H A W .typed (r .modem) _ (LL.owed D1.the-type D1′.the-laws r _ is .1 .0) .0)) $
+              assigns ! (reads-field ! 16 1 (LL.val D0.the-type D0′.the-laws (r .modem)) refl refl refl refl) (from ! (hop ! (look ! 9 refl) (stop !)))
+              (store-raw ! 3 refl (LL.lawful D0.the-type D0′.the-laws 𝓤 H A W .typed (r .modem) _ (LL.owed D1.the-type D1′.the-laws r _ is .1 .0) .0)) $
               sets ! (reads-field ! 16 0 (vint w32 (r .number)) refl refl refl refl) 8 refl (uint-lawful 𝓤 H A W w32 .typed (r .number) _ (LL.owed D1.the-type D1′.the-laws r _ is .0) .0) $
               drop ! $ move ! (1 ∷ []) $ drop ! $
               owned ! D0.the-row (Is D0.the-row) (LL.makes D0.the-type D0′.the-plain 𝓤 H A) (r .modem) _ (LL.owed D1.the-type D1′.the-laws r _ is .1 .0) $
@@ -110,7 +123,9 @@ module _ {M : Type 1} (𝓤 : URA M) (H : Heap 𝓤) (A : Atoms 𝓤) (W : Given
   walks C Λ fm known = walked 𝓤 H A dsg-event.ended stayed (dsg-event.clauses 𝓤 H A at-mem run) (WpFn 𝓤 H C Λ code.function)
       (λ κs. (ptr-vals, (uint-vals w32, (uint-vals w8, (uint-vals w16, (uint-vals w16, (uint-vals w16, (uint-vals w16, tt))))))))
       (λ κs. (mut-tells (named 0) (κs .0) D0.the-row, (uint-tells w32, (uint-tells w8, (uint-tells w16, (uint-tells w16, (uint-tells w16, (uint-tells w16, tt))))))))
-      (λ κs qs bounds a _ are. via 𝓤 _ (fst∗ 𝓤 _ (emp 𝓤)) (walk 𝓤 H A W at-mem run (κs .0) (qs .0) (a .0 .ptr .0) (a .0 .ptr .1) (a .0 .name) (a .0 .now) (a .1 .0) (a .1 .1 .0) (a .1 .1 .1 .0) (a .1 .1 .1 .1 .0) (a .1 .1 .1 .1 .1 .0) (a .1 .1 .1 .1 .1 .1 .0) (are .1 .0) (are .1 .1 .0) (are .1 .1 .1 .0) (are .1 .1 .1 .1 .0) (are .1 .1 .1 .1 .1 .0) (are .1 .1 .1 .1 .1 .1 .0) C Λ fm known))
+      (λ κs qs bounds a _ are. via 𝓤 _ (fst∗ 𝓤 _ (emp 𝓤)) (walk 𝓤 H A W at-mem run (κs .0) (qs .0) (a .0 .ptr .0) (a .0 .ptr .1) (a .0 .name) (a .0 .now) (a .1 .0) (a .1 .1 .0)
+      (a .1 .1 .1 .0) (a .1 .1 .1 .1 .0) (a .1 .1 .1 .1 .1 .0) (a .1 .1 .1 .1 .1 .1 .0) (are .1 .0) (are .1 .1 .0) (are .1 .1 .1 .0) (are .1 .1 .1 .1 .0) (are .1 .1 .1 .1 .1 .0)
+      (are .1 .1 .1 .1 .1 .1 .0) C Λ fm known))
 
   goes : AllGo 𝓤 H A W 1 (dsg-event.signature .params) (dsg-event.ended .kept) stayed
   goes = (goes-ref 𝓤 H A W 1 0 tt (plain (λ _. D0.the-row)), (goes-none 𝓤 H A W 1 (λ _. u32) yes (λ κs x f. refl), (goes-none 𝓤 H A W 1 (λ _. u8) yes (λ κs x f. refl), (goes-none 𝓤 H A W 1 (λ _. u16) yes (λ κs x f. refl), (goes-none 𝓤 H A W 1 (λ _. u16) yes (λ κs x f. refl), (goes-none 𝓤 H A W 1 (λ _. u16) yes (λ κs x f. refl), (goes-none 𝓤 H A W 1 (λ _. u16) yes (λ κs x f. refl), tt)))))))

@@ -39,7 +39,20 @@ module _ {M : Type 1} (𝓤 : URA M) (H : Heap 𝓤) (A : Atoms 𝓤) (mem : Mem
   Callee = tripleOf 𝓤 H A judge-value.signature (judge-value.spec 𝓤 H A mem run)
 
 module _ {M : Type 1} (𝓤 : URA M) (H : Heap 𝓤) (A : Atoms 𝓤) (W : Given 𝓤 H A) (at-mem : Memory → SProp 𝓤) (run : Routine → Fun 𝓤)
-    (κ0 κ1 : Lft) (q0 q1 : Share) (b o : ℕ) (γ : GName) (h : Table) (p1 : ℕ) (p2 : ℕ) (p3 : ℕ) (p4 : ℕ) (p5 : RefT (List ℕ)) (is-p1 : Is u8 p1 (vint w8 p1 ∷ [])) (is-p2 : Is u64 p2 (vint w64 p2 ∷ [])) (is-p3 : Is u8 p3 (vint w8 p3 ∷ [])) (is-p4 : Is u8 p4 (vint w8 p4 ∷ [])) (is-p5 : Is (ShrSlice (named 1) κ1 u8) p5 (sliceVal (p5 .ptr) (length (p5 .now)) ∷ [])) where
+    (κ0 κ1 : Lft) (q0 q1 : Share) (b o : ℕ) (γ : GName) (h : Table) (p1 : ℕ) (p2 : ℕ) (p3 : ℕ) (p4 : ℕ) (p5 : RefT (List ℕ)) (is-p1 : Is u8 p1 (vint w8 p1 ∷ []))
+    (is-p2 : Is u64 p2 (vint w64 p2 ∷ [])) (is-p3 : Is u8 p3 (vint w8 p3 ∷ [])) (is-p4 : Is u8 p4 (vint w8 p4 ∷ []))
+    (is-p5 : Is (ShrSlice (named 1) κ1 u8) p5 (sliceVal (p5 .ptr) (length (p5 .now)) ∷ [])) where
+  -- the slices as values, and as they are had
+  abbrev p5-val : Val
+  p5-val = sliceVal (p5 .ptr) (length (p5 .now))
+
+  abbrev has-p5 : Item 𝓤
+  has-p5 = ‵ ((ShrSlice (named 1) κ1 u8) .own p5 (p5-val ∷ []))
+
+  -- the lifetimes that the callee borrows for
+  abbrev lives : Item 𝓤
+  lives = ‵ (flft κ1 q1) ⊛ ‵ ftrue
+
   abbrev Arg : Type 0
   Arg = RefT Table × (ℕ × (ℕ × (ℕ × (ℕ × (RefT (List ℕ) × (Unit {0}))))))
 
@@ -47,7 +60,7 @@ module _ {M : Type 1} (𝓤 : URA M) (H : Heap 𝓤) (A : Atoms 𝓤) (W : Given
   x = (record { ptr = (b, o); name = γ; now = h }, (p1, (p2, (p3, (p4, (p5, tt))))))
 
   abbrev at : List Val × (List Val × (List Val × (List Val × (List Val × (List Val × Unit {0})))))
-  at = (vptr b o ∷ [], (vint w8 p1 ∷ [], (vint w64 p2 ∷ [], (vint w8 p3 ∷ [], (vint w8 p4 ∷ [], (sliceVal (p5 .ptr) (length (p5 .now)) ∷ [], tt))))))
+  at = (vptr b o ∷ [], (vint w8 p1 ∷ [], (vint w64 p2 ∷ [], (vint w8 p3 ∷ [], (vint w8 p4 ∷ [], (p5-val ∷ [], tt))))))
 
   abbrev Post : Val → SProp 𝓤
   Post = walkOf 𝓤 H A dsg-judge.ended stayed (dsg-judge.clauses 𝓤 H A at-mem run) .post (((κ0, (κ1, tt)), (q0, (q1, tt)), tt, x, at), tt)
@@ -55,12 +68,13 @@ module _ {M : Type 1} (𝓤 : URA M) (H : Heap 𝓤) (A : Atoms 𝓤) (W : Given
   -- what is had where the function returns
   abbrev left : (r : Verdict) (v : Val) → List (Item 𝓤)
   left r v =
-      ‵ (fres γ (D0.the-row .coded .code h)) ∷ ‵ (fshr-bor κ0 (λ s. partAt D0.the-row s h b o)) ∷ ‵ (D1.the-row .own r (v ∷ [])) ∷ ‵ (flft κ0 q0) ∷ (‵ (flft κ1 q1) ⊛ ‵ ftrue) ∷ ‵ ((ShrSlice (named 1) κ1 u8) .own p5 (sliceVal (p5 .ptr) (length (p5 .now)) ∷ [])) ∷ []
+      ‵ (fres γ (D0.the-row .coded .code h)) ∷ ‵ (fshr-bor κ0 (λ s. partAt D0.the-row s h b o)) ∷ ‵ (D1.the-row .own r (v ∷ [])) ∷ ‵ (flft κ0 q0) ∷ lives ∷ has-p5 ∷ []
 
   exits : (r : Verdict) (v : Val) → r ≡ verdictFor h p1 p2 p3 p4 (p5 .now) → ent 𝓤 (⋆ 𝓤 H A (left r v)) (Post (v))
   exits r v eq =
       qed W (left r v) ∵
-      suffices ! _ (ends-at 𝓤 H A dsg-judge.ended stayed (dsg-judge.clauses 𝓤 H A at-mem run) W (((κ0, (κ1, tt)), (q0, (q1, tt)), tt, x, at), tt) (v) (r) (tt, (tt, (tt, (tt, (tt, (tt, tt)))))) (tt, (tt, (tt, (tt, (tt, (tt, tt))))))) $
+      suffices ! _ (ends-at 𝓤 H A dsg-judge.ended stayed (dsg-judge.clauses 𝓤 H A at-mem run) W (((κ0, (κ1, tt)), (q0, (q1, tt)), tt, x, at), tt) (v) (r)
+      (tt, (tt, (tt, (tt, (tt, (tt, tt)))))) (tt, (tt, (tt, (tt, (tt, (tt, tt))))))) $
       says ! eq $ move ! (3 ∷ 4 ∷ []) $ join ! $ frame ! $ feqI ! (List Val) (vptr b o ∷ []) (vptr b o ∷ []) refl $ fjoin3 ! $ nothing ! $
       move ! (3 ∷ 0 ∷ []) $ fjoin ! $ owned ! u8 (Is u8) (uint-makes 𝓤 H A W w8) p4 _ is-p4 $ fjoin ! $
       owned ! u8 (Is u8) (uint-makes 𝓤 H A W w8) p3 _ is-p3 $ fjoin ! $ owned ! u64 (Is u64) (uint-makes 𝓤 H A W w64) p2 _ is-p2 $ fjoin ! $
@@ -68,10 +82,10 @@ module _ {M : Type 1} (𝓤 : URA M) (H : Heap 𝓤) (A : Atoms 𝓤) (W : Given
 
   -- what the callee binds outside, and what it asks: the slices at their own lifetimes, and plain data, which is had for nothing
   abbrev to : Callee 𝓤 H A at-mem run .Ghost
-  to = (((κ1, tt), (q1, tt), tt, (h, (p1, (p2, (p3, (p4, (p5, tt)))))), (LL.val D0.the-type D0′.the-laws h ∷ [], (vint w8 p1 ∷ [], (vint w64 p2 ∷ [], (vint w8 p3 ∷ [], (vint w8 p4 ∷ [], (sliceVal (p5 .ptr) (length (p5 .now)) ∷ [], tt))))))), tt)
+  to = (((κ1, tt), (q1, tt), tt, (h, (p1, (p2, (p3, (p4, (p5, tt)))))), (LL.val D0.the-type D0′.the-laws h ∷ [], (vint w8 p1 ∷ [], (vint w64 p2 ∷ [], (vint w8 p3 ∷ [], (vint w8 p4 ∷ [], (p5-val ∷ [], tt))))))), tt)
 
-  goes-in : Is D0.the-row h (LL.val D0.the-type D0′.the-laws h ∷ []) → ent 𝓤 (⋆ 𝓤 H A (((‵ (flft κ1 q1) ⊛ ‵ ftrue) ⊛ ‵ ((ShrSlice (named 1) κ1 u8) .own p5 (sliceVal (p5 .ptr) (length (p5 .now)) ∷ []))) ∷ [])) (Callee 𝓤 H A at-mem run .pre to)
-  goes-in was = qed W (((‵ (flft κ1 q1) ⊛ ‵ ftrue) ⊛ ‵ ((ShrSlice (named 1) κ1 u8) .own p5 (sliceVal (p5 .ptr) (length (p5 .now)) ∷ []))) ∷ []) ∵
+  goes-in : Is D0.the-row h (LL.val D0.the-type D0′.the-laws h ∷ []) → ent 𝓤 (⋆ 𝓤 H A ((lives ⊛ has-p5) ∷ [])) (Callee 𝓤 H A at-mem run .pre to)
+  goes-in was = qed W ((lives ⊛ has-p5) ∷ []) ∵
       split ! $ nothing ! $ move ! (2 ∷ 0 ∷ []) $ fjoin ! $ owned ! u8 (Is u8) (uint-makes 𝓤 H A W w8) p4 _ is-p4 $ fjoin ! $
       owned ! u8 (Is u8) (uint-makes 𝓤 H A W w8) p3 _ is-p3 $ fjoin ! $ owned ! u64 (Is u64) (uint-makes 𝓤 H A W w64) p2 _ is-p2 $ fjoin ! $
       owned ! u8 (Is u8) (uint-makes 𝓤 H A W w8) p1 _ is-p1 $ fjoin ! $
@@ -79,23 +93,32 @@ module _ {M : Type 1} (𝓤 : URA M) (H : Heap 𝓤) (A : Atoms 𝓤) (W : Given
       done !
 
   module _ (C : Calls 𝓤 H) (Λ : Loops 𝓤 H) (fm : FmC 𝓤 H (W .laws) C) (known : Triple 𝓤 (C #dsg_frames·judge-value) (Callee 𝓤 H A at-mem run)) where
-    walk : ent 𝓤 (onEntry 𝓤 H A dsg-judge.signature (κ0, (κ1, tt)) (q0, (q1, tt)) x at) (WpFn 𝓤 H C Λ code.function (vptr b o ∷ vint w8 p1 ∷ vint w64 p2 ∷ vint w8 p3 ∷ vint w8 p4 ∷ sliceVal (p5 .ptr) (length (p5 .now)) ∷ []) Post)
+    walk : ent 𝓤 (onEntry 𝓤 H A dsg-judge.signature (κ0, (κ1, tt)) (q0, (q1, tt)) x at)
+        (WpFn 𝓤 H C Λ code.function (vptr b o ∷ vint w8 p1 ∷ vint w64 p2 ∷ vint w8 p3 ∷ vint w8 p4 ∷ p5-val ∷ []) Post)
     walk =
         qed W ((‵ (flft κ0 q0) ⊛ ‵ (flft κ1 q1) ⊛ ‵ ftrue) ∷ ‵ (owns (ShrRef (named 0) κ0 D0.the-row ∷ u8 ∷ u64 ∷ u8 ∷ u8 ∷ (ShrSlice (named 1) κ1 u8) ∷ []) x at) ∷ []) ∵
-        begins ! C Λ code.function (vptr b o ∷ vint w8 p1 ∷ vint w64 p2 ∷ vint w8 p3 ∷ vint w8 p4 ∷ sliceVal (p5 .ptr) (length (p5 .now)) ∷ []) _
+        begins ! C Λ code.function (vptr b o ∷ vint w8 p1 ∷ vint w64 p2 ∷ vint w8 p3 ∷ vint w8 p4 ∷ p5-val ∷ []) _
         (λ l0 l1 l2 l3 l4 l5 l6 l7. (
           ((tt, tt), ((uint-lawful 𝓤 H A W w8 .typed p1 _ is-p1 .0), ((uint-lawful 𝓤 H A W w64 .typed p2 _ is-p2 .0), ((uint-lawful 𝓤 H A W w8 .typed p3 _ is-p3 .0), ((uint-lawful 𝓤 H A W w8 .typed p4 _ is-p4 .0), ((shr-slice-lawful 𝓤 H A W (named 1) κ1 u8 .typed p5 _ is-p5 .0), tt)))))),
           move ! (1 ∷ []) $ fsplit ! $ fsplit3 ! $ drop ! $ move ! (3 ∷ []) $ split ! $ move ! (4 ∷ []) $ fsplit ! $ drop ! $ fsplit ! $ drop ! $
               fsplit ! $ drop ! $ fsplit ! $ drop ! $ fsplit ! $
-              use1 W (‵ ((ShrSlice (named 1) κ1 u8) .own p5 (sliceVal (p5 .ptr) (length (p5 .now)) ∷ [])) ⊛ ‵ ((ShrSlice (named 1) κ1 u8) .own p5 (sliceVal (p5 .ptr) (length (p5 .now)) ∷ []))) (shr-slice-copy 𝓤 H A W (named 1) κ1 u8 .twice p5 (sliceVal (p5 .ptr) (length (p5 .now)) ∷ [])) $
+              use1 W (has-p5 ⊛ has-p5) (shr-slice-copy 𝓤 H A W (named 1) κ1 u8 .twice p5 (p5-val ∷ [])) $
               split ! $
-              move ! (6 ∷ 3 ∷ []) $ looks ! tt D0.the-row (Is D0.the-row) (shows 𝓤 H A D0.the-row) (LL.vals D0.the-type D0′.the-laws) (LL.tells D0.the-type D0′.the-laws) (LL.copy D0.the-type D0′.the-copy 𝓤 H A W) h b o (λ s0 vs0. spelt ! D0.the-row (Is D0.the-row) (shows 𝓤 H A D0.the-row) (LL.vals D0.the-type D0′.the-laws) (LL.tells D0.the-type D0′.the-laws) s0 h vs0 b o $
-              move ! (1 ∷ []) $ peeks ! D0.the-row (Is D0.the-row) (shows 𝓤 H A D0.the-row) h (LL.val D0.the-type D0′.the-laws h ∷ []) (λ was. sets ! (reads-behind ! 10 refl 1 refl) 16 refl (LL.lawful D0.the-type D0′.the-laws 𝓤 H A W .typed h _ was .0) $
+              move ! (6 ∷ 3 ∷ []) $ looks ! tt D0.the-row (Is D0.the-row) (shows 𝓤 H A D0.the-row) (LL.vals D0.the-type D0′.the-laws) (LL.tells D0.the-type D0′.the-laws)
+              (LL.copy D0.the-type D0′.the-copy 𝓤 H A W) h b o
+              (λ s0 vs0. spelt ! D0.the-row (Is D0.the-row) (shows 𝓤 H A D0.the-row) (LL.vals D0.the-type D0′.the-laws) (LL.tells D0.the-type D0′.the-laws) s0 h vs0 b o $
+              move ! (1 ∷ []) $ peeks ! D0.the-row (Is D0.the-row) (shows 𝓤 H A D0.the-row) h (LL.val D0.the-type D0′.the-laws h ∷ [])
+              (λ was. sets ! (reads-behind ! 10 refl 1 refl) 16 refl (LL.lawful D0.the-type D0′.the-laws 𝓤 H A W .typed h _ was .0) $
               move ! (1 ∷ 0 ∷ 2 ∷ []) $ shuts ! tt D0.the-row s0 h (LL.val D0.the-type D0′.the-laws h ∷ []) b o $ move ! (5 ∷ 2 ∷ []) $ join ! $
               use1 W (raw (Callee 𝓤 H A at-mem run .pre to)) (goes-in was) $
-              calls-at ! fm (Callee 𝓤 H A at-mem run) known to (and-then ! (reads ! 13 refl) (and-then ! (reads ! 8 refl) (and-then ! (reads ! 9 refl) (and-then ! (reads ! 10 refl) (and-then ! (reads ! 11 refl) (and-then ! (reads ! 12 refl) (no-more !))))))) (λ v.
-              use1 W (later (some (λ (r : Verdict). ((‵ (flft κ1 q1) ⊛ ‵ ftrue) ⊛ ‵ (D1.the-row .own r (v ∷ []))) ⊛ raw (ensured 𝓤 H A judge-value.ended (judge-value.clauses 𝓤 H A at-mem run) (κ1, tt) (h, (p1, (p2, (p3, (p4, (p5, tt)))))) tt r)))) (id⊢ 𝓤 _) $
-              await ! tt $ pick ! (λ r. split ! $ move ! (1 ∷ []) $ use1 W (some (λ (zs : (Unit {0} × (Unit {0} × (Unit {0} × (Unit {0} × (Unit {0} × (Unit {0} × Unit {0}))))))). ‵ (lasts judge-value.ended (κ1, tt) (h, (p1, (p2, (p3, (p4, (p5, tt)))))) zs) ⊛ raw (fact 𝓤 (r ≡ verdictFor h p1 p2 p3 p4 (p5 .now))))) (id⊢ 𝓤 _) $
+              calls-at ! fm (Callee 𝓤 H A at-mem run) known to
+              (and-then ! (reads ! 13 refl) (and-then ! (reads ! 8 refl)
+              (and-then ! (reads ! 9 refl) (and-then ! (reads ! 10 refl) (and-then ! (reads ! 11 refl) (and-then ! (reads ! 12 refl) (no-more !))))))) (λ v.
+              use1 W (later (some (λ (r : Verdict). (lives ⊛ ‵ (D1.the-row .own r (v ∷ [])))
+              ⊛ raw (ensured 𝓤 H A judge-value.ended (judge-value.clauses 𝓤 H A at-mem run) (κ1, tt) (h, (p1, (p2, (p3, (p4, (p5, tt)))))) tt r)))) (id⊢ 𝓤 _) $
+              await ! tt $ pick ! (λ r. split ! $ move ! (1 ∷ []) $
+              use1 W (some (λ (zs : (Unit {0} × (Unit {0} × (Unit {0} × (Unit {0} × (Unit {0} × (Unit {0} × Unit {0}))))))). ‵ (lasts judge-value.ended (κ1, tt)
+              (h, (p1, (p2, (p3, (p4, (p5, tt)))))) zs) ⊛ raw (fact 𝓤 (r ≡ verdictFor h p1 p2 p3 p4 (p5 .now))))) (id⊢ 𝓤 _) $
               pick ! (λ zs. split ! $ move ! (1 ∷ []) $ heard ! (r ≡ verdictFor h p1 p2 p3 p4 (p5 .now)) (λ eq.
               drop ! $ split ! $ move ! (1 ∷ []) $ peeks ! D1.the-row (Is D1.the-row) (shows 𝓤 H A D1.the-row) r (v ∷ []) (λ is.
               land ! (from ! (stop !)) (init ! 7 refl (LL.lawful D1.the-type D1′.the-laws 𝓤 H A W .typed r _ is .0)) $
@@ -109,7 +132,8 @@ module _ {M : Type 1} (𝓤 : URA M) (H : Heap 𝓤) (A : Atoms 𝓤) (W : Given
   walks C Λ fm known = walked 𝓤 H A dsg-judge.ended stayed (dsg-judge.clauses 𝓤 H A at-mem run) (WpFn 𝓤 H C Λ code.function)
       (λ κs. (ptr-vals, (uint-vals w8, (uint-vals w64, (uint-vals w8, (uint-vals w8, (slice-vals, tt)))))))
       (λ κs. (shr-tells (named 0) (κs .0) D0.the-row, (uint-tells w8, (uint-tells w64, (uint-tells w8, (uint-tells w8, (shr-slice-tells (named 1) (κs .1 .0) u8, tt)))))))
-      (λ κs qs bounds a _ are. via 𝓤 _ (fst∗ 𝓤 _ (emp 𝓤)) (walk 𝓤 H A W at-mem run (κs .0) (κs .1 .0) (qs .0) (qs .1 .0) (a .0 .ptr .0) (a .0 .ptr .1) (a .0 .name) (a .0 .now) (a .1 .0) (a .1 .1 .0) (a .1 .1 .1 .0) (a .1 .1 .1 .1 .0) (a .1 .1 .1 .1 .1 .0) (are .1 .0) (are .1 .1 .0) (are .1 .1 .1 .0) (are .1 .1 .1 .1 .0) (are .1 .1 .1 .1 .1 .0) C Λ fm known))
+      (λ κs qs bounds a _ are. via 𝓤 _ (fst∗ 𝓤 _ (emp 𝓤)) (walk 𝓤 H A W at-mem run (κs .0) (κs .1 .0) (qs .0) (qs .1 .0) (a .0 .ptr .0) (a .0 .ptr .1) (a .0 .name) (a .0 .now) (a .1 .0)
+      (a .1 .1 .0) (a .1 .1 .1 .0) (a .1 .1 .1 .1 .0) (a .1 .1 .1 .1 .1 .0) (are .1 .0) (are .1 .1 .0) (are .1 .1 .1 .0) (are .1 .1 .1 .1 .0) (are .1 .1 .1 .1 .1 .0) C Λ fm known))
 
   goes : AllGo 𝓤 H A W 2 (dsg-judge.signature .params) (dsg-judge.ended .kept) stayed
   goes = (goes-none-ref 𝓤 H A W 2 (0 ∷ []) tt (plain (λ _. D0.the-row)) yes, (goes-none 𝓤 H A W 2 (λ _. u8) yes (λ κs x f. refl), (goes-none 𝓤 H A W 2 (λ _. u64) yes (λ κs x f. refl), (goes-none 𝓤 H A W 2 (λ _. u8) yes (λ κs x f. refl), (goes-none 𝓤 H A W 2 (λ _. u8) yes (λ κs x f. refl), (goes-none-slice 𝓤 H A W 2 (1 ∷ []) tt (plain (λ _. u8)) yes, tt))))))
