@@ -16,7 +16,7 @@ use mir.Syntax.{Ty, Local, local, Fn}
 use mir.Val.{Val, WT, hasTy}
 use base.Logic.{SProp, ent, sep, emp, via, comm∗, assoc∗, assoc′, monoL, monoR, fst∗, snd∗, emp∗, wand, wandI, all, allI, guardI}
 use base.Fml.{fat, froom, fdies}
-use prog.Wp.{Heap, Calls, Loops, write, alloc, pass, params, release, WpFn}
+use prog.Wp.{Heap, Calls, Loops, write, alloc, pass, params, release, Wp, atReturn, WpFn}
 use ghost.Atoms.{Atoms}
 use types.Kit.{Given, Item, ‵, raw, _⊛_, ⋆, push, pop, ++⊢, ⊢++, Goal, prop, runs, frees as freeing, atRet, aim, Seq, Step, step, _$_, _∵_, !, qed, by, move, use1, use2, split, join, frame, check, assume, done}
 
@@ -177,9 +177,14 @@ module _ {M : Type 1} {𝓤 : URA M} {H : Heap 𝓤} {A : Atoms 𝓤} {K : Type 
       → Wherever (f .locals) (λ E. Fits E vs × Seq K W (Γ ++ started 𝓤 H E vs) (runs C Λ E (f .body) (atRet E Kf))) → Seq K W Γ (prop (WpFn 𝓤 H C Λ f vs Kf))
   unfolding WpFn
   begins t C Λ f vs Kf k = record {
-    prf = made 𝓤 H A W (f .locals) (⋆ 𝓤 H A Γ) (λ E. params 𝓤 H E vs (aim 𝓤 H (runs C Λ E (f .body) (atRet E Kf))))
-        (wherever-map (f .locals) _ _ (λ E p. given 𝓤 H A W Γ E vs _ (p .0) (p .1 .prf)) k);
+    prf = made 𝓤 H A W (f .locals) (⋆ 𝓤 H A Γ) goal
+        (wherever-map (f .locals) (λ E. Fits E vs × Seq K W (Γ ++ started 𝓤 H E vs) (runs C Λ E (f .body) (atRet E Kf)))
+        (λ E. ent 𝓤 (sep 𝓤 (⋆ 𝓤 H A Γ) (sep 𝓤 (places 𝓤 H A W E []) (dying 𝓤 H E))) (goal E))
+        (λ E p. given 𝓤 H A W Γ E vs (Wp 𝓤 H C Λ E (f .body) (atReturn 𝓤 H E Kf)) (p .0) (p .1 .prf)) k);
   }
+    where
+      goal : Places → SProp 𝓤
+      goal E = params 𝓤 H E vs (Wp 𝓤 H C Λ E (f .body) (atReturn 𝓤 H E Kf))
 
   pub frees : K → (n : ℕ) (vs : List Val) {E : Places} {g : Goal 𝓤 H} → stored E vs ++ (raw (dying 𝓤 H E) ∷ []) ≡ rests n Γ → Step K W (firsts n Γ) g Γ (freeing E g)
   frees t n vs {E} {g} same = step (λ s. record {
