@@ -10,11 +10,13 @@
 use Rattle.walks.proofs.Walk.{_≡_, refl, Bool, ℕ, [], _∷_, List, URA, named, Val, vptr, SProp, ent, emp, via, fst∗, id⊢, GName, Lft, Share, ftrue, flft}
 use Rattle.walks.proofs.Walk.{fres, fshr-bor, Memory, Routine, Heap, Calls, Loops, WpFn, Tables, Atoms, Fun, fact, Given, Item, ‵, raw, _⊛_, ⋆, some, later}
 use Rattle.walks.proofs.Walk.{_$_, _∵_, !, qed, by, move, keep, drop, use0, use1, split, join, pick, fsplit, fsplit3, fjoin, fjoin3, feqI, suffices, frame}
-use Rattle.walks.proofs.Walk.{await, done, look, look-raw, init, forget, stop, hop, from, load, of-opd, and-then, no-more, assigns, land, returns, enter}
-use Rattle.walks.proofs.Walk.{alloc1, alloc0, params1, pass1, pass0, free1, free0, FmC, fmOf, WpFn-mono, owns, Is, shows, mem, partAt, Boolean, bool-lawful}
+use Rattle.walks.proofs.Walk.{await, done, look, init, stop, from, and-then, no-more, land, returns}
+use Rattle.walks.proofs.Walk.{FmC, fmOf, WpFn-mono, owns, Is, shows, mem, partAt, Boolean, bool-lawful}
 use Rattle.walks.proofs.Walk.{RefT, ShrRef, ptr-vals, shr-tells, plain, looks, shuts, owned, peeks, heard, nothing, spelt, onEntry, Meets, tripleOf, Contract}
 use Rattle.walks.proofs.Walk.{Triple, calls-at, ensured, lasts, says, Stays, stay-none-ref, walkOf, AllGo, goes-none-ref, Walks, ends-at, walked, walk-meets}
 use Rattle.walks.proofs.Walk.{yes}
+use Rattle.walks.proofs.Locals.{begins, frees}
+use Rattle.walks.proofs.Reading.{reads, reads-behind, sets}
 use mathlib.Core.Path.{subst⁻¹}
 use mir.Syntax.{Name, Ty, tyBool, tyUnit, tyRef, tyNamed, imm, local, valueLocal, place, deref, rvOpd, copy, assign, call, seq, return, Fn}
 use denote.Ref.{now}
@@ -101,29 +103,26 @@ module _ (g : Name) (f : Modem → Bool) {M : Type 1} (𝓤 : URA M) (H : Heap �
     walk : ent 𝓤 (onEntry 𝓤 H A (asking .signature) (κ0, tt) (q0, tt) x at) (WpFn 𝓤 H C Λ (asked g) (vptr b o ∷ []) Post)
     walk =
         qed W ((‵ (flft κ0 q0) ⊛ ‵ ftrue) ∷ ‵ (owns (ShrRef (named 0) κ0 D0.the-row ∷ []) x at) ∷ []) ∵
-        enter ! C Λ (asked g) (vptr b o ∷ []) _ $
-        alloc1 ! (λ l0. alloc1 ! (λ l1. alloc1 ! (λ l2. alloc0 ! $ params1 ! $
-        pass1 ! (init ! 2 refl (tt, tt)) $ pass0 ! $
-        move ! (7 ∷ []) $ fsplit ! $ fsplit3 ! $ drop ! $ move ! (9 ∷ []) $ split ! $
-        move ! (3 ∷ 0 ∷ []) $
-        looks ! tt D0.the-row (Is D0.the-row) (shows 𝓤 H A D0.the-row) (LL.vals D0.the-type D0′.the-laws) (LL.tells D0.the-type D0′.the-laws) (LL.copy D0.the-type D0′.the-copy 𝓤 H A W) h b o
-        (λ s0 vs0. spelt ! D0.the-row (Is D0.the-row) (shows 𝓤 H A D0.the-row) (LL.vals D0.the-type D0′.the-laws) (LL.tells D0.the-type D0′.the-laws) s0 h vs0 b o $
-        move ! (1 ∷ []) $
-        peeks ! D0.the-row (Is D0.the-row) (shows 𝓤 H A D0.the-row) h (LL.val D0.the-type D0′.the-laws h ∷ [])
-        (λ was. assigns ! (of-opd ! (load ! (from ! (hop ! (look ! 9 refl) (stop !))) (look-raw ! 1 refl))) (from ! (stop !))
-        (init ! 7 refl (LL.lawful D0.the-type D0′.the-laws 𝓤 H A W .typed h _ was .0)) $
-        move ! (1 ∷ 0 ∷ 2 ∷ []) $ shuts ! tt D0.the-row s0 h (LL.val D0.the-type D0′.the-laws h ∷ []) b o $
-        use0 W (raw (Callee f 𝓤 H A at-mem run .pre to)) (goes-in was) $
-        calls-at ! fm (Callee f 𝓤 H A at-mem run) known to (and-then ! (load ! (from ! (stop !)) (look ! 6 refl)) (no-more !)) (λ v.
-        use1 W (later (some (λ (r : Bool). (‵ ftrue ⊛ ‵ (Boolean .own r (v ∷ []))) ⊛ raw (ensured 𝓤 H A answering (answers 𝓤 f) tt (h, tt) tt r)))) (id⊢ 𝓤 _) $
-        await ! tt $ pick ! (λ r. split ! $ move ! (1 ∷ []) $
-        use1 W (some (λ (zs : (Unit {0} × Unit {0})). ‵ (lasts answering tt (h, tt) zs) ⊛ raw (fact 𝓤 (r ≡ f h)))) (id⊢ 𝓤 _) $
-        pick ! (λ zs. split ! $ move ! (1 ∷ []) $ heard ! (r ≡ f h) (λ eq.
-        drop ! $ split ! $ move ! (4 ∷ []) $ drop ! $ move ! (1 ∷ []) $ peeks ! Boolean (Is Boolean) (shows 𝓤 H A Boolean) r (v ∷ []) (λ is.
-        land ! (from ! (stop !)) (init ! 10 refl (bool-lawful 𝓤 H A W .typed r _ is .0)) $
-        returns ! (look ! 10 refl) $ forget ! 10 refl $ forget ! 8 refl $ forget ! 6 refl $
-        move ! (10 ∷ 11 ∷ []) $ free1 ! $ move ! (8 ∷ 9 ∷ []) $ free1 ! $ move ! (6 ∷ 7 ∷ []) $ free1 ! $ free0 ! $
-        keep ! (4 ∷ 3 ∷ 0 ∷ 2 ∷ 1 ∷ []) $ by ! (exits r v eq)))))))))))
+        begins ! C Λ (asked g) (vptr b o ∷ []) _
+        (λ l0 l1 l2. (
+          ((tt, tt), tt),
+          move ! (1 ∷ []) $ fsplit ! $ fsplit3 ! $ drop ! $ move ! (3 ∷ []) $ split ! $
+              move ! (3 ∷ 0 ∷ []) $ looks ! tt D0.the-row (Is D0.the-row) (shows 𝓤 H A D0.the-row) (LL.vals D0.the-type D0′.the-laws) (LL.tells D0.the-type D0′.the-laws)
+              (LL.copy D0.the-type D0′.the-copy 𝓤 H A W) h b o
+              (λ s0 vs0. spelt ! D0.the-row (Is D0.the-row) (shows 𝓤 H A D0.the-row) (LL.vals D0.the-type D0′.the-laws) (LL.tells D0.the-type D0′.the-laws) s0 h vs0 b o $
+              move ! (1 ∷ []) $ peeks ! D0.the-row (Is D0.the-row) (shows 𝓤 H A D0.the-row) h (LL.val D0.the-type D0′.the-laws h ∷ [])
+              (λ was. sets ! (reads-behind ! 8 refl 1 refl) 9 refl (LL.lawful D0.the-type D0′.the-laws 𝓤 H A W .typed h _ was .0) $
+              move ! (1 ∷ 0 ∷ 2 ∷ []) $ shuts ! tt D0.the-row s0 h (LL.val D0.the-type D0′.the-laws h ∷ []) b o $
+              use0 W (raw (Callee f 𝓤 H A at-mem run .pre to)) (goes-in was) $
+              calls-at ! fm (Callee f 𝓤 H A at-mem run) known to (and-then ! (reads ! 8 refl) (no-more !)) (λ v.
+              use1 W (later (some (λ (r : Bool). (‵ ftrue ⊛ ‵ (Boolean .own r (v ∷ []))) ⊛ raw (ensured 𝓤 H A answering (answers 𝓤 f) tt (h, tt) tt r)))) (id⊢ 𝓤 _) $
+              await ! tt $ pick ! (λ r. split ! $ move ! (1 ∷ []) $ use1 W (some (λ (zs : (Unit {0} × Unit {0})). ‵ (lasts answering tt (h, tt) zs) ⊛ raw (fact 𝓤 (r ≡ f h)))) (id⊢ 𝓤 _) $
+              pick ! (λ zs. split ! $ move ! (1 ∷ []) $ heard ! (r ≡ f h) (λ eq.
+              drop ! $ split ! $ move ! (4 ∷ []) $ drop ! $ move ! (1 ∷ []) $ peeks ! Boolean (Is Boolean) (shows 𝓤 H A Boolean) r (v ∷ []) (λ is.
+              land ! (from ! (stop !)) (init ! 6 refl (bool-lawful 𝓤 H A W .typed r _ is .0)) $
+              returns ! (look ! 6 refl) $ frees ! 6 (_ ∷ _ ∷ _ ∷ []) refl $
+              keep ! (4 ∷ 3 ∷ 0 ∷ 2 ∷ 1 ∷ []) $ by ! (exits r v eq)))))))),
+        ))
 
 module _ (g : Name) (f : Modem → Bool) {M : Type 1} (𝓤 : URA M) (H : Heap 𝓤) (A : Atoms 𝓤) (W : Given 𝓤 H A) (at-mem : Memory → SProp 𝓤) (run : Routine → Fun 𝓤) where
   walks : (C : Calls 𝓤 H) (Λ : Loops 𝓤 H) → FmC 𝓤 H (W .laws) C → Triple 𝓤 (C g) (Callee f 𝓤 H A at-mem run)
