@@ -6,8 +6,18 @@ SHELL := bash
 CARGO := cargo --quiet
 LOGS := build/log
 BIN := host/target/release
-LIBRARY := target/staticlib/libdsg.a
+MACHINE := $(shell uname -m)
+BOARDS := target/boards/x86_64/libdsg.a target/boards/aarch64/libdsg.a
+LIBRARY := target/boards/$(MACHINE)/libdsg.a
 PROVED := crates.txt $(shell find crates -name '*.rt' -o -name '*.antt')
+
+ifeq ($(filter $(LIBRARY),$(BOARDS)),)
+$(error this machine is $(MACHINE): dsg is for x86_64 and aarch64 Linux)
+endif
+
+# Where `make install` puts header, archive and dsg.pc; a packager gives DESTDIR too.
+PREFIX ?= /usr/local
+DESTDIR ?=
 
 # What the gate compares; `make bench SEED=.. COUNT=..` takes others.
 SEED := 1
@@ -15,10 +25,11 @@ COUNT := 60000
 AREA := all
 MEMCHECK_COUNT := 10000
 
-.PHONY: sample dcdlist test after-prove layout prove library host host-test samples host-c bench memcheck measure clean help
+.PHONY: sample dcdlist test after-prove layout prove library boards boards-test host host-test samples host-c bench memcheck measure \
+        install install-test clean help
 
 sample: dcdlist ## build dcdlist and list document 01's example body (the default)
-	@examples/bytes < examples/bodies/accepted-m.hex | target/bin/dcdlist
+	@examples/bytes < examples/bodies/accepted-m.hex | tools/run target/bin/dcdlist
 
 dcdlist: ## prove and build the program target/bin/dcdlist
 	@mkdir -p $(LOGS)
@@ -29,7 +40,7 @@ test: layout prove ## everything that the gate asks; the last line is rt ci's ve
 	@$(MAKE) --no-print-directory after-prove
 	@tail -n 1 $(LOGS)/ci
 
-after-prove: samples host-test host-c bench memcheck
+after-prove: samples host-test host-c bench memcheck boards-test install-test
 
 layout: ## are all Rattle files laid out as rt fmt lays them out?
 	@rt fmt --check
@@ -38,11 +49,18 @@ prove: ## prove every crate from nothing, and try every must-fail edit
 	@mkdir -p $(LOGS)
 	@rt ci 2>&1 | tee $(LOGS)/ci
 
-library: $(LIBRARY) ## prove and build target/staticlib/libdsg.a, for C and Rust to link
+library: $(LIBRARY) ## prove dsg and build the archive for this processor, for C and Rust to link
 
-$(LIBRARY): $(PROVED)
+boards: $(BOARDS) ## the archives for both processors: target/boards/x86_64/libdsg.a, target/boards/aarch64/libdsg.a
+	@tail -n 2 $(LOGS)/library
+
+# One proof and one module make both.
+$(BOARDS) &: $(PROVED) tools/library tools/kit.sh
 	@mkdir -p $(LOGS)
-	@rt staticlib dsg > $(LOGS)/library 2>&1 || { tail -n 40 $(LOGS)/library >&2; exit 1; }
+	@tools/library > $(LOGS)/library 2>&1 || { tail -n 40 $(LOGS)/library >&2; exit 1; }
+
+boards-test: $(BOARDS) ## the C host for the other processor, where a cross compiler and an emulator are installed
+	@examples/check-boards build/boards
 
 host: $(LIBRARY) ## build the Rust side: wrapper, bench, reference, requests, measure
 	@cd host && $(CARGO) build --release --offline
@@ -70,8 +88,20 @@ memcheck: host ## a share of that under valgrind
 measure: host ## times of the library beside plain Rust and plain copies, in one run
 	@$(BIN)/measure
 
+install: $(LIBRARY) ## put dsg.h, libdsg.a and dsg.pc below PREFIX (default /usr/local), all below DESTDIR
+	@install -d '$(DESTDIR)$(PREFIX)/include' '$(DESTDIR)$(PREFIX)/lib/pkgconfig'
+	@install -m 644 include/dsg.h '$(DESTDIR)$(PREFIX)/include/dsg.h'
+	@install -m 644 $(LIBRARY) '$(DESTDIR)$(PREFIX)/lib/libdsg.a'
+	@sed 's|@PREFIX@|$(PREFIX)|' include/dsg.pc.in > '$(DESTDIR)$(PREFIX)/lib/pkgconfig/dsg.pc'
+	@chmod 644 '$(DESTDIR)$(PREFIX)/lib/pkgconfig/dsg.pc'
+
+install-test: $(LIBRARY) ## install into a folder of build/, and build the C host from there through pkg-config
+	@rm -rf build/install
+	@$(MAKE) --no-print-directory install PREFIX=/usr/local DESTDIR='$(CURDIR)/build/install'
+	@examples/check-install build/install /usr/local
+
 clean: ## remove everything that was built
 	@rm -rf target host/target build
 
 help: ## this list
-	@sed -n 's/^\([a-z-]*\):.*## /\1\t/p' Makefile | expand -t 12
+	@sed -n 's/^\([a-z-]*\):.*## /\1\t/p' Makefile | expand -t 14

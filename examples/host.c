@@ -85,7 +85,7 @@ static void choose(struct board *b, uint32_t clock)
     bool chosen = choice.number == DSG_REFUSED_NOTHING;
     const struct dsg_rule *rule = &b->table.rules[chosen ? choice.place : 0];
 
-    b->tunnel = dsg_prepare(&b->table, b->kind, b->value, b->modem.hasucid, b->modem.ucid);
+    dsg_prepare(&b->tunnel, &b->table, b->kind, b->value, b->modem.hasucid, b->modem.ucid);
     if (chosen && (!b->chosen || b->rule != rule->number)) {
         stamp(clock);
         printf("tunnel %012llx chosen: rule %u, priority %u\n", (unsigned long long)rule->tunnel, rule->number,
@@ -129,9 +129,9 @@ static void notify(struct board *b, uint32_t clock, uint8_t event, uint16_t a, c
 /* One body from the tuner. */
 static void take_body(struct board *b, uint32_t clock, const uint8_t *body, size_t length)
 {
-    struct dsg_received r = dsg_receive(&b->held, &b->table, b->slots, sizeof b->slots, b->join, sizeof b->join, body,
-                                        length);
+    struct dsg_received r;
 
+    dsg_receive(&r, &b->held, &b->table, b->slots, sizeof b->slots, b->join, sizeof b->join, body, length);
     stamp(clock);
     if (r.kind == DSG_RECEIVE_REFUSED) {
         printf("body refused %lu: %s\n", (unsigned long)r.number, words_of(r.number));
@@ -171,7 +171,7 @@ static void take_frame(struct board *b, uint32_t clock, const uint8_t *frame, si
         printf("frame dropped: nothing is forwarded in this state\n");
         return;
     }
-    v = dsg_judge_prepared(&b->tunnel, frame, length);
+    dsg_judge_prepared(&v, &b->tunnel, frame, length);
     stamp(clock);
     switch (v.kind) {
     case DSG_JUDGE_FORWARD:
@@ -280,11 +280,11 @@ int main(int argc, char **argv)
         perror(argv[1]);
         return 1;
     }
-    b->modem = dsg_empty_modem();
-    b->held = dsg_empty_collection();
-    b->table = dsg_empty_table();
+    dsg_empty_modem(&b->modem);
+    dsg_empty_collection(&b->held);
+    dsg_empty_table(&b->table);
     b->kind = DSG_CLIENT_BROADCAST_ALL;
-    b->tunnel = dsg_prepare(&b->table, b->kind, b->value, 0, 0);
+    dsg_prepare(&b->tunnel, &b->table, b->kind, b->value, 0, 0);
     while (fgets(line, sizeof line, script)) {
         number++;
         if (!play(b, line)) {

@@ -22,6 +22,9 @@ static struct dsg_collection held;
 static struct dsg_table table;
 static struct dsg_tunnel tunnel;
 static struct dsg_modem modem;
+static struct dsg_collected collected;
+static struct dsg_received received;
+static struct dsg_verdict verdict;
 static uint8_t slots[DSG_BUFFER_BYTES], join[DSG_BUFFER_BYTES], out[DSG_LISTING_BYTES];
 
 /* A rule with a UCID list and a classifier, that classifier with an IP part, and a configuration: rows three deep. */
@@ -37,14 +40,14 @@ static const uint8_t frame[] = {0x01, 0x00, 0x5e, 0x06, 0x06, 0x06, 0x02, 0x00, 
                                 0x00, 0x02, 0xe0, 0x00, 0x00, 0x01, 0x04, 0x00, 0x13, 0x88, 0x00, 0x08, 0x00, 0x00};
 
 static void call_nothing(void) {}
-static void call_empty_table(void) { table = dsg_empty_table(); }
-static void call_empty_collection(void) { held = dsg_empty_collection(); }
-static void call_empty_modem(void) { modem = dsg_empty_modem(); }
+static void call_empty_table(void) { dsg_empty_table(&table); }
+static void call_empty_collection(void) { dsg_empty_collection(&held); }
+static void call_empty_modem(void) { dsg_empty_modem(&modem); }
 static void call_read(void) { dsg_read(&table, body + 3, sizeof body - 3); }
 static void call_choose(void) { dsg_choose(&table, DSG_CLIENT_APPLICATION, 42, 1, 4); }
-static void call_judge(void) { dsg_judge(&table, DSG_CLIENT_APPLICATION, 42, 1, 4, frame, sizeof frame); }
-static void call_prepare(void) { tunnel = dsg_prepare(&table, DSG_CLIENT_APPLICATION, 42, 1, 4); }
-static void call_judge_prepared(void) { dsg_judge_prepared(&tunnel, frame, sizeof frame); }
+static void call_judge(void) { dsg_judge(&verdict, &table, DSG_CLIENT_APPLICATION, 42, 1, 4, frame, sizeof frame); }
+static void call_prepare(void) { dsg_prepare(&tunnel, &table, DSG_CLIENT_APPLICATION, 42, 1, 4); }
+static void call_judge_prepared(void) { dsg_judge_prepared(&verdict, &tunnel, frame, sizeof frame); }
 static void call_transmits(void) { dsg_transmits(&modem); }
 static void call_forwards(void) { dsg_forwards(&modem); }
 static void call_list_table(void) { dsg_list_table(&table, 8, out, sizeof out); }
@@ -57,20 +60,20 @@ static void collect_half(int receive, uint8_t piece)
     size_t bytes = piece == 1 ? 20 : sizeof body - 3 - 20;
     half[2] = piece;
     memcpy(half + 3, body + (piece == 1 ? 3 : 23), bytes);
-    if (receive) dsg_receive(&held, &table, slots, sizeof slots, join, sizeof join, half, bytes + 3);
-    else dsg_collect(&held, slots, sizeof slots, join, sizeof join, half, bytes + 3);
+    if (receive) dsg_receive(&received, &held, &table, slots, sizeof slots, join, sizeof join, half, bytes + 3);
+    else dsg_collect(&collected, &held, slots, sizeof slots, join, sizeof join, half, bytes + 3);
 }
 
 static void call_collect(void)
 {
-    held = dsg_empty_collection();
+    dsg_empty_collection(&held);
     collect_half(0, 2);
     collect_half(0, 1);
 }
 
 static void call_receive(void)
 {
-    held = dsg_empty_collection();
+    dsg_empty_collection(&held);
     collect_half(1, 2);
     collect_half(1, 1);
 }

@@ -7,6 +7,10 @@
  * No function allocates, keeps a pointer, has state of its own, reads a clock or calls back. So they may run in
  * several threads at once, as long as no two calls are lent the same record or buffer.
  *
+ * An answer of more than 16 bytes is written where the first argument points, and that pointer is what the function
+ * returns: struct dsg_verdict v; if (dsg_judge_prepared(&v, &tunnel, frame, length)->kind == DSG_JUDGE_FORWARD) .. Every
+ * field is written; nothing that was there is read. It is the same call on x86-64 and on Arm.
+ *
  * What only the caller can promise:
  *   - a pointer to a record points to one, and is not null; a pointer to bytes points to as many as its length says, or
  *     is anything, null too, where the length is 0; the compiler's layout of the records is asserted below;
@@ -22,8 +26,8 @@
  * compare records field by field.
  *
  * Memory that a board needs: the records below and two buffers of DSG_BUFFER_BYTES, some 55,000 bytes. Stack, as
- * examples/stack.c measures it: dsg_list_body 141,000 bytes, dsg_receive 93,000, dsg_read 66,000, dsg_empty_table 29,000,
- * dsg_judge 26,000, dsg_prepare 23,000, dsg_list_table 21,000, dsg_choose 13,000, dsg_collect 4,000; what runs for each
+ * examples/stack.c measures it: dsg_list_body 141,000 bytes, dsg_receive 93,000, dsg_read 66,000, dsg_judge 26,000,
+ * dsg_prepare 23,000, dsg_list_table 21,000, dsg_empty_table 20,000, dsg_choose 13,000, dsg_collect 4,000; what runs for each
  * frame and event (dsg_judge_prepared, dsg_event, dsg_transmits, dsg_forwards) under 200. Of the C library only memcpy,
  * memmove, memset and the like are called.
  */
@@ -34,6 +38,12 @@
 #include <stdint.h>
 #ifndef __cplusplus
 #include <stdbool.h>
+#endif
+
+/* The library is compiled for these two: 64 bits, little-endian, the same sizes and alignments. */
+#if !(defined(__linux__) && (defined(__x86_64__) || defined(__aarch64__)) && defined(__LP64__) && \
+      defined(__BYTE_ORDER__) && __BYTE_ORDER__ == __ORDER_LITTLE_ENDIAN__)
+#error "dsg.h: libdsg.a is for Linux on x86-64 and on 64-bit little-endian Arm (aarch64), and on no other processor"
 #endif
 
 #ifdef __cplusplus
@@ -196,11 +206,11 @@ struct dsg_modem {
     uint8_t ucid;
 };
 
-/* Records to begin with: nothing collected, the table of the empty message, an idle modem.
+/* Records to begin with: nothing collected, the table of the empty message, an idle modem. Written: the record, all of it.
  * Definitions: collection/specs/Record emptyCollection, table/specs/Table emptyTable, modem_record/specs/Record emptyModem. */
-struct dsg_collection dsg_empty_collection(void);
-struct dsg_table dsg_empty_table(void);
-struct dsg_modem dsg_empty_modem(void);
+struct dsg_collection *dsg_empty_collection(struct dsg_collection *held);
+struct dsg_table *dsg_empty_table(struct dsg_table *table);
+struct dsg_modem *dsg_empty_modem(struct dsg_modem *modem);
 
 /* ---- collecting and reading --------------------------------------------------------------------------------- */
 
@@ -226,8 +236,9 @@ struct dsg_collected {
  *   more pieces than one, at its start. Pass the same record and the same buffers, untouched, each time.
  * Refused (kind 0): all that was lent holds what it held.
  * Definition: collector/specs/Step collectStep; dsg_pieces/specs/Bodies collectedOf. */
-struct dsg_collected dsg_collect(struct dsg_collection *held, uint8_t *slots, size_t slots_length, uint8_t *join,
-                                 size_t join_length, const uint8_t *body, size_t body_length);
+struct dsg_collected *dsg_collect(struct dsg_collected *answer, struct dsg_collection *held, uint8_t *slots,
+                                  size_t slots_length, uint8_t *join, size_t join_length, const uint8_t *body,
+                                  size_t body_length);
 
 struct dsg_read_answer {
     uint32_t number; /* 0: accepted; else the refusal, 3 or 6 to 15 */
@@ -259,9 +270,9 @@ struct dsg_received {
  * Lent, written: as by these two. A refused body changes nothing; a refused message leaves the table as it was, and the
  *   collection and the buffers with the pieces of that message, so that a repeat is a repeat.
  * Definition: receiver/specs/Receive receiveStep; dsg_pieces/specs/Bodies receivedOf. */
-struct dsg_received dsg_receive(struct dsg_collection *held, struct dsg_table *table, uint8_t *slots,
-                                size_t slots_length, uint8_t *join, size_t join_length, const uint8_t *body,
-                                size_t body_length);
+struct dsg_received *dsg_receive(struct dsg_received *answer, struct dsg_collection *held, struct dsg_table *table,
+                                 uint8_t *slots, size_t slots_length, uint8_t *join, size_t join_length,
+                                 const uint8_t *body, size_t body_length);
 
 /* ---- choosing and judging ----------------------------------------------------------------------------------- */
 
@@ -293,18 +304,19 @@ struct dsg_verdict {
 
 /* Judges a frame for a client. Lent: the table, the frame. Nothing is written.
  * Definition: tunnel/specs/Judge verdictOf; dsg_frames/specs/Frames verdictAs. */
-struct dsg_verdict dsg_judge(const struct dsg_table *table, uint8_t kind, uint64_t value, uint8_t ucid_known,
-                             uint8_t ucid, const uint8_t *frame, size_t length);
+struct dsg_verdict *dsg_judge(struct dsg_verdict *answer, const struct dsg_table *table, uint8_t kind, uint64_t value,
+                              uint8_t ucid_known, uint8_t ucid, const uint8_t *frame, size_t length);
 
 /* The rule for a client and its classifiers, taken out of the table once, to judge many frames with. Anew after each
- * accepted table and wherever the UCID changes. Lent: the table. Nothing is written.
+ * accepted table and wherever the UCID changes. Lent: the table. Written: the tunnel alone.
  * Definition: preparing/specs/Preparing preparedTunnel. */
-struct dsg_tunnel dsg_prepare(const struct dsg_table *table, uint8_t kind, uint64_t value, uint8_t ucid_known,
-                              uint8_t ucid);
+struct dsg_tunnel *dsg_prepare(struct dsg_tunnel *tunnel, const struct dsg_table *table, uint8_t kind, uint64_t value,
+                               uint8_t ucid_known, uint8_t ucid);
 
 /* Judges a frame with what dsg_prepare gave: the verdict is that of dsg_judge with the same table, client and UCID.
  * Lent: the tunnel, the frame. Nothing is written. Definition: tunnel_parts/specs/Prepared preparedVerdict; dsg_frames/specs/Frames verdictAs. */
-struct dsg_verdict dsg_judge_prepared(const struct dsg_tunnel *tunnel, const uint8_t *frame, size_t length);
+struct dsg_verdict *dsg_judge_prepared(struct dsg_verdict *answer, const struct dsg_tunnel *tunnel,
+                                       const uint8_t *frame, size_t length);
 
 /* ---- the modem ---------------------------------------------------------------------------------------------- */
 
@@ -357,7 +369,7 @@ struct dsg_listed dsg_list_body(const uint8_t *body, size_t body_length, uint8_t
 
 /* ---- layout ------------------------------------------------------------------------------------------------- */
 
-/* The library is compiled for x86-64 Linux; where a compiler lays a record out otherwise, these do not compile. */
+/* x86-64 and aarch64 lay these records out alike; where a compiler lays one out otherwise, these do not compile. */
 #if defined(__cplusplus)
 #define DSG_ASSERT(name, test) static_assert(test, #name)
 #elif defined(__STDC_VERSION__) && __STDC_VERSION__ >= 201112L
@@ -367,6 +379,11 @@ struct dsg_listed dsg_list_body(const uint8_t *body, size_t body_length, uint8_t
 #endif
 #define DSG_SIZE(type, bytes) DSG_ASSERT(type##_size, sizeof(struct type) == (bytes))
 #define DSG_AT(type, field, bytes) DSG_ASSERT(type##_##field, offsetof(struct type, field) == (bytes))
+
+DSG_ASSERT(byte_bits, (unsigned char)-1 == 255);
+DSG_ASSERT(size_t_size, sizeof(size_t) == 8);
+DSG_ASSERT(pointer_size, sizeof(void *) == 8);
+DSG_ASSERT(bool_size, sizeof(bool) == 1);
 
 DSG_SIZE(dsg_client, 16);
 DSG_AT(dsg_client, kind, 0);

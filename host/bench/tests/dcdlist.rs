@@ -1,6 +1,7 @@
 //! The built program `dcdlist`: what it writes is the other program's listing.
 //!
-//! DCDLIST names the program; without it, it is looked for where `rt check dcdlist` puts it.
+//! DCDLIST names the program; without it, it is looked for where `rt check dcdlist` puts it. It is for x86-64, and
+//! `tools/run` runs it on the processor at hand.
 
 use reference::protocol::request::Request;
 use requests::generator::{Area, Generator};
@@ -8,8 +9,9 @@ use std::env;
 use std::io::Write;
 use std::path::PathBuf;
 use std::process::{Command, Stdio};
+use std::thread;
 
-fn dcdlist() -> PathBuf {
+fn dcdlist() -> Command {
     let here = PathBuf::from(env!("CARGO_MANIFEST_DIR"));
     let program =
         env::var("DCDLIST").map_or_else(|_| here.join("../../target/bin/dcdlist"), PathBuf::from);
@@ -18,12 +20,14 @@ fn dcdlist() -> PathBuf {
         "{} is not there: `make` builds it",
         program.display()
     );
-    program
+    let mut run = Command::new(here.join("../../tools/run"));
+    run.arg(program);
+    run
 }
 
 /// What the program writes for a body.
 fn listed(body: &[u8]) -> String {
-    let mut child = Command::new(dcdlist())
+    let mut child = dcdlist()
         .stdin(Stdio::piped())
         .stdout(Stdio::piped())
         .spawn()
@@ -50,9 +54,18 @@ fn same_as_other_program_on_a_thousand_bodies() {
         Request::List(body) => Some(body),
         _ => None,
     });
-    for body in bodies.take(1_000) {
-        assert_eq!(listed(&body), expected(&body), "{body:02x?}");
-    }
+    let bodies: Vec<Vec<u8>> = bodies.take(1_000).collect();
+    // Under an emulator a run takes 40 ms: the processors share them.
+    let workers = thread::available_parallelism().map_or(1, usize::from);
+    thread::scope(|scope| {
+        for part in bodies.chunks(bodies.len().div_ceil(workers)) {
+            scope.spawn(move || {
+                for body in part {
+                    assert_eq!(listed(body), expected(body), "{body:02x?}");
+                }
+            });
+        }
+    });
 }
 
 #[test]

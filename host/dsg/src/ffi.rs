@@ -5,8 +5,11 @@
 //! nothing and keeps no pointer after it returns (`include/dsg.h`). What is left to show is that the
 //! pointers are good, that nothing lent as `&mut` is lent twice, and that the declarations below are
 //! the header's; the last is held by `tests/layout.rs` and by every answer that the tests compare.
+//! An answer of more than 16 bytes is written where the first pointer points, as in the header:
+//! x86-64 and aarch64 return such a struct in different ways, and pass a pointer in the same.
 
 use crate::records::{Collection, Modem, Table, Tunnel};
+use std::mem::MaybeUninit;
 
 /// The answer to a body.
 #[repr(C)]
@@ -87,10 +90,11 @@ mod raw {
     use crate::records::{Collection, Modem, Table, Tunnel};
 
     extern "C" {
-        pub fn dsg_empty_collection() -> Collection;
-        pub fn dsg_empty_table() -> Table;
-        pub fn dsg_empty_modem() -> Modem;
+        pub fn dsg_empty_collection(held: *mut Collection) -> *mut Collection;
+        pub fn dsg_empty_table(table: *mut Table) -> *mut Table;
+        pub fn dsg_empty_modem(modem: *mut Modem) -> *mut Modem;
         pub fn dsg_collect(
+            answer: *mut Collected,
             held: *mut Collection,
             slots: *mut u8,
             slots_length: usize,
@@ -98,9 +102,10 @@ mod raw {
             join_length: usize,
             body: *const u8,
             body_length: usize,
-        ) -> Collected;
+        ) -> *mut Collected;
         pub fn dsg_read(table: *mut Table, message: *const u8, length: usize) -> ReadAnswer;
         pub fn dsg_receive(
+            answer: *mut Received,
             held: *mut Collection,
             table: *mut Table,
             slots: *mut u8,
@@ -109,10 +114,11 @@ mod raw {
             join_length: usize,
             body: *const u8,
             body_length: usize,
-        ) -> Received;
+        ) -> *mut Received;
         pub fn dsg_choose(table: *const Table, kind: u8, value: u64, known: u8, ucid: u8)
             -> Choice;
         pub fn dsg_judge(
+            answer: *mut Judged,
             table: *const Table,
             kind: u8,
             value: u64,
@@ -120,16 +126,21 @@ mod raw {
             ucid: u8,
             frame: *const u8,
             length: usize,
-        ) -> Judged;
+        ) -> *mut Judged;
         pub fn dsg_prepare(
+            tunnel: *mut Tunnel,
             table: *const Table,
             kind: u8,
             value: u64,
             known: u8,
             ucid: u8,
-        ) -> Tunnel;
-        pub fn dsg_judge_prepared(tunnel: *const Tunnel, frame: *const u8, length: usize)
-            -> Judged;
+        ) -> *mut Tunnel;
+        pub fn dsg_judge_prepared(
+            answer: *mut Judged,
+            tunnel: *const Tunnel,
+            frame: *const u8,
+            length: usize,
+        ) -> *mut Judged;
         pub fn dsg_event(
             modem: *mut Modem,
             clock: u32,
@@ -156,38 +167,53 @@ mod raw {
     }
 }
 
+/// What a call of the library writes.
+///
+/// # Safety
+/// `call` writes every field of the record that it is given, and does not read it. Records are numbers
+/// alone, and the bytes between their fields may hold anything.
+unsafe fn written<T>(call: impl FnOnce(*mut T) -> *mut T) -> T {
+    let mut answer = MaybeUninit::uninit();
+    call(answer.as_mut_ptr());
+    // SAFETY: the caller promises that every field is written.
+    unsafe { answer.assume_init() }
+}
+
 /// A collection record with nothing collected.
 pub fn empty_collection() -> Collection {
-    // SAFETY: it takes nothing and returns a struct of numbers.
-    unsafe { raw::dsg_empty_collection() }
+    // SAFETY: it writes the whole record.
+    unsafe { written(|held| raw::dsg_empty_collection(held)) }
 }
 
 /// The table of the empty message.
 pub fn empty_table() -> Table {
-    // SAFETY: it takes nothing and returns a struct of numbers.
-    unsafe { raw::dsg_empty_table() }
+    // SAFETY: it writes the whole record.
+    unsafe { written(|table| raw::dsg_empty_table(table)) }
 }
 
 /// An idle modem record.
 pub fn empty_modem() -> Modem {
-    // SAFETY: it takes nothing and returns a struct of numbers.
-    unsafe { raw::dsg_empty_modem() }
+    // SAFETY: it writes the whole record.
+    unsafe { written(|modem| raw::dsg_empty_modem(modem)) }
 }
 
 /// One body for a lent record and two lent buffers.
 pub fn collect(held: &mut Collection, slots: &mut [u8], join: &mut [u8], body: &[u8]) -> Collected {
     // SAFETY: each pointer comes from a reference that lives through the call, each length is its
-    // slice's, and the borrow checker keeps the four apart.
+    // slice's, and the borrow checker keeps the four apart. The answer is written whole.
     unsafe {
-        raw::dsg_collect(
-            held,
-            slots.as_mut_ptr(),
-            slots.len(),
-            join.as_mut_ptr(),
-            join.len(),
-            body.as_ptr(),
-            body.len(),
-        )
+        written(|answer| {
+            raw::dsg_collect(
+                answer,
+                held,
+                slots.as_mut_ptr(),
+                slots.len(),
+                join.as_mut_ptr(),
+                join.len(),
+                body.as_ptr(),
+                body.len(),
+            )
+        })
     }
 }
 
@@ -208,16 +234,19 @@ pub fn receive(
 ) -> Received {
     // SAFETY: as for `collect`, with the table as a fifth reference.
     unsafe {
-        raw::dsg_receive(
-            held,
-            table,
-            slots.as_mut_ptr(),
-            slots.len(),
-            join.as_mut_ptr(),
-            join.len(),
-            body.as_ptr(),
-            body.len(),
-        )
+        written(|answer| {
+            raw::dsg_receive(
+                answer,
+                held,
+                table,
+                slots.as_mut_ptr(),
+                slots.len(),
+                join.as_mut_ptr(),
+                join.len(),
+                body.as_ptr(),
+                body.len(),
+            )
+        })
     }
 }
 
@@ -230,21 +259,37 @@ pub fn choose(table: &Table, kind: u8, value: u64, known: u8, ucid: u8) -> Choic
 /// The verdict on a frame.
 pub fn judge(table: &Table, kind: u8, value: u64, known: u8, ucid: u8, frame: &[u8]) -> Judged {
     // SAFETY: both pointers come from references that live through the call and are only read; the
-    // length is the slice's.
-    unsafe { raw::dsg_judge(table, kind, value, known, ucid, frame.as_ptr(), frame.len()) }
+    // length is the slice's. The answer is written whole.
+    unsafe {
+        written(|answer| {
+            raw::dsg_judge(
+                answer,
+                table,
+                kind,
+                value,
+                known,
+                ucid,
+                frame.as_ptr(),
+                frame.len(),
+            )
+        })
+    }
 }
 
 /// The tunnel of a client, prepared.
 pub fn prepare(table: &Table, kind: u8, value: u64, known: u8, ucid: u8) -> Tunnel {
-    // SAFETY: the pointer comes from a reference that lives through the call; it is only read.
-    unsafe { raw::dsg_prepare(table, kind, value, known, ucid) }
+    // SAFETY: the pointer comes from a reference that lives through the call; it is only read. The
+    // tunnel is written whole.
+    unsafe { written(|tunnel| raw::dsg_prepare(tunnel, table, kind, value, known, ucid)) }
 }
 
 /// The verdict on a frame with a prepared tunnel.
 pub fn judge_prepared(tunnel: &Tunnel, frame: &[u8]) -> Judged {
     // SAFETY: both pointers come from references that live through the call and are only read; the
-    // length is the slice's.
-    unsafe { raw::dsg_judge_prepared(tunnel, frame.as_ptr(), frame.len()) }
+    // length is the slice's. The answer is written whole.
+    unsafe {
+        written(|answer| raw::dsg_judge_prepared(answer, tunnel, frame.as_ptr(), frame.len()))
+    }
 }
 
 /// One event for a lent modem record: 0, or the refusal's number.

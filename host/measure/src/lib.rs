@@ -2,4 +2,5 @@
 
 pub mod inputs;
 pub mod plain;
+pub mod processor;
 pub mod rounds;

@@ -381,6 +381,7 @@ const PARTS: [(&str, fn()); 5] = [
 /// Measures every part, or the one that the first argument names.
 fn main() {
     let only = std::env::args().nth(1);
+    println!("on {}", measure::processor::named());
     for (name, measure) in PARTS {
         if only.as_deref().is_none_or(|only| only == name) {
             measure();
