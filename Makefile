@@ -18,6 +18,8 @@ endif
 # Where `make install` puts header, archive and dsg.pc; a packager gives DESTDIR too.
 PREFIX ?= /usr/local
 DESTDIR ?=
+VERSION := $(shell sed -n 's/^version = "\(.*\)"/\1/p' host/Cargo.toml)
+INSTALLED := include/dsg.h lib/libdsg.a lib/pkgconfig/dsg.pc
 
 # What the gate compares; `make bench SEED=.. COUNT=..` takes others.
 SEED := 1
@@ -25,8 +27,8 @@ COUNT := 60000
 AREA := all
 MEMCHECK_COUNT := 10000
 
-.PHONY: sample dcdlist test after-prove layout prove library boards boards-test host host-test samples host-c bench memcheck measure \
-        install install-test clean help
+.PHONY: sample dcdlist setup test after-prove layout prove library boards boards-test host host-test samples host-c bench memcheck \
+        measure install uninstall install-test clean help
 
 sample: dcdlist ## build dcdlist and list document 01's example body (the default)
 	@examples/bytes < examples/bodies/accepted-m.hex | tools/run target/bin/dcdlist
@@ -36,7 +38,10 @@ dcdlist: ## prove and build the program target/bin/dcdlist
 	@echo 'proving dcdlist and all that it stands on (minutes the first time) ..' >&2
 	@rt check dcdlist > $(LOGS)/dcdlist 2>&1 || { tail -n 40 $(LOGS)/dcdlist >&2; exit 1; }
 
-test: layout prove ## everything that the gate asks; the last line is rt ci's verdict
+setup: ## install what the tests call and this machine lacks
+	@tools/setup
+
+test: setup layout prove ## everything that the gate asks; the last line is rt ci's verdict
 	@$(MAKE) --no-print-directory after-prove
 	@tail -n 1 $(LOGS)/ci
 
@@ -72,7 +77,7 @@ samples: ## dcdlist on every sample of examples/
 	@test -x target/bin/dcdlist || $(MAKE) --no-print-directory dcdlist
 	@examples/check-bodies target/bin/dcdlist
 
-host-c: $(LIBRARY) ## the C host of examples/, built by gcc and clang and run on its script
+host-c: $(LIBRARY) ## the C host of examples/, built by gcc and clang and run on its scripts
 	@examples/check-host $(LIBRARY) build/host-c
 
 bench: host ## the library against the other program: make bench SEED=1 COUNT=60000 AREA=all
@@ -92,13 +97,20 @@ install: $(LIBRARY) ## put dsg.h, libdsg.a and dsg.pc below PREFIX (default /usr
 	@install -d '$(DESTDIR)$(PREFIX)/include' '$(DESTDIR)$(PREFIX)/lib/pkgconfig'
 	@install -m 644 include/dsg.h '$(DESTDIR)$(PREFIX)/include/dsg.h'
 	@install -m 644 $(LIBRARY) '$(DESTDIR)$(PREFIX)/lib/libdsg.a'
-	@sed 's|@PREFIX@|$(PREFIX)|' include/dsg.pc.in > '$(DESTDIR)$(PREFIX)/lib/pkgconfig/dsg.pc'
-	@chmod 644 '$(DESTDIR)$(PREFIX)/lib/pkgconfig/dsg.pc'
+	@mkdir -p build
+	@sed -e 's|@PREFIX@|$(PREFIX)|' -e 's|@VERSION@|$(VERSION)|' include/dsg.pc.in > build/dsg.pc
+	@install -m 644 build/dsg.pc '$(DESTDIR)$(PREFIX)/lib/pkgconfig/dsg.pc'
 
-install-test: $(LIBRARY) ## install into a folder of build/, and build the C host from there through pkg-config
+uninstall: ## remove what `make install` put there
+	@for file in $(INSTALLED); do rm -f '$(DESTDIR)$(PREFIX)'/$$file; done
+
+# A prefix with a blank, since hosts have them.
+install-test: $(LIBRARY) ## install into a folder of build/, build the C host from there through pkg-config, and uninstall
 	@rm -rf build/install
-	@$(MAKE) --no-print-directory install PREFIX=/usr/local DESTDIR='$(CURDIR)/build/install'
-	@examples/check-install build/install /usr/local
+	@$(MAKE) --no-print-directory install PREFIX='/opt/a board' DESTDIR='$(CURDIR)/build/install'
+	@examples/check-install build/install '/opt/a board'
+	@$(MAKE) --no-print-directory uninstall PREFIX='/opt/a board' DESTDIR='$(CURDIR)/build/install'
+	@test -z "$$(find build/install/opt -type f)"
 
 clean: ## remove everything that was built
 	@rm -rf target host/target build

@@ -1,10 +1,13 @@
 /*
- * host.c: a small receiver for a board. It plays a script of what a tuner's driver reports and writes the plain log
- * that an installer reads. All memory is in one struct; nothing is allocated.
+ * host.c: a small receiver for a board, as docs/BOARD.md describes it. It plays a script of what a tuner's driver
+ * reports and writes the plain log that an installer reads. All memory is in one struct; nothing is allocated.
  *
- * usage: host [SCRIPT]        (no SCRIPT: standard input; exit status 1 where a line cannot be read)
+ * usage: host [SCRIPT]        (no SCRIPT: standard input)
+ * Exit status 1 where the script cannot be opened or read, with a line on standard error that names what; the log up to
+ * there is written.
  *
- * A line of a script is a clock in milliseconds, a word, and what goes with it; `#` starts a comment, hex may have blanks:
+ * A line of a script is a clock in milliseconds, a word, and what goes with it, and nothing more; `#` starts a comment,
+ * numbers are decimal or 0x.., hex may have blanks:
  *   T start 0|1 (may the board transmit?)    T locked    T empty (the scan found nothing)    T tick
  *   T up UCID    T lost (upstream)    T enable    T disable    T hunt    T downlost
  *   T body HEX   T frame HEX
@@ -12,7 +15,6 @@
  */
 #include <ctype.h>
 #include <stdio.h>
-#include <stdlib.h>
 #include <string.h>
 
 #include "dsg.h"
@@ -23,16 +25,19 @@
 /* What the board keeps. The library owns none of it. */
 struct board {
     struct dsg_modem modem;
-    struct dsg_collection held;
-    struct dsg_table table;
-    struct dsg_tunnel tunnel;
-    uint8_t kind; /* the client */
-    uint64_t value;
-    bool chosen; /* whether a rule fits it, and which */
-    uint8_t rule;
-    unsigned long forwarded, filtered, other, dropped;
+    struct dsg_collection held; /* with its two buffers */
     uint8_t slots[DSG_BUFFER_BYTES];
     uint8_t join[DSG_BUFFER_BYTES];
+    struct dsg_table table; /* the last one that was accepted, */
+    bool has_table;         /* if there was one */
+    uint8_t kind;           /* the client, */
+    uint64_t value;
+    struct dsg_tunnel tunnel; /* and its tunnel, prepared */
+    bool told, chosen;        /* whether the log tells of its rule; whether there is one, and which */
+    uint8_t rule;
+    uint64_t address;
+    uint32_t clock; /* of the last line */
+    unsigned long forwarded, filtered, other, dropped;
 };
 
 static struct board the_board;
@@ -61,6 +66,8 @@ static const char *const refusal_words[] = {
     "the clock went back",
 };
 
+/* ---- the log ------------------------------------------------------------------------------------------------ */
+
 /* The clock at the start of a log line, in seconds. */
 static void stamp(uint32_t clock)
 {
@@ -69,7 +76,7 @@ static void stamp(uint32_t clock)
 
 static const char *words_of(uint32_t refusal)
 {
-    return refusal <= 18 ? refusal_words[refusal] : "unknown";
+    return refusal < sizeof refusal_words / sizeof refusal_words[0] ? refusal_words[refusal] : "unknown";
 }
 
 /* A number and what it counts: "1 rule", "2 rules". */
@@ -78,28 +85,43 @@ static void print_count(const char *before, unsigned count, const char *what)
     printf("%s%u %s%s", before, count, what, count == 1 ? "" : "s");
 }
 
-/* Chooses the client's tunnel anew, and says so where another rule is chosen. */
-static void choose(struct board *b, uint32_t clock)
+/* ---- what the library asks of a board ----------------------------------------------------------------------- */
+
+/* Records to begin with. The buffers were cleared with the rest of the_board. */
+static void begin(struct board *b)
+{
+    dsg_empty_modem(&b->modem);
+    dsg_empty_collection(&b->held);
+    dsg_empty_table(&b->table);
+    b->kind = DSG_CLIENT_BROADCAST_ALL;
+    dsg_prepare(&b->tunnel, &b->table, b->kind, b->value, 0, 0);
+}
+
+/* Prepares the client's tunnel anew: after an accepted table, after a change of the UCID, after a change of the client.
+ * Where another tunnel than before is chosen, or none, the log says so. */
+static void prepare(struct board *b, uint32_t clock)
 {
     struct dsg_choice choice = dsg_choose(&b->table, b->kind, b->value, b->modem.hasucid, b->modem.ucid);
     bool chosen = choice.number == DSG_REFUSED_NOTHING;
     const struct dsg_rule *rule = &b->table.rules[chosen ? choice.place : 0];
+    bool same = b->told && b->chosen == chosen && (!chosen || (b->rule == rule->number && b->address == rule->tunnel));
 
     dsg_prepare(&b->tunnel, &b->table, b->kind, b->value, b->modem.hasucid, b->modem.ucid);
-    if (chosen && (!b->chosen || b->rule != rule->number)) {
-        stamp(clock);
+    if (!b->has_table || same) return;
+    stamp(clock);
+    if (chosen) {
         printf("tunnel %012llx chosen: rule %u, priority %u\n", (unsigned long long)rule->tunnel, rule->number,
                rule->priority);
-    }
-    if (!chosen && b->chosen) {
-        stamp(clock);
+    } else {
         printf("no tunnel: refused %lu, %s\n", (unsigned long)choice.number, words_of(choice.number));
     }
+    b->told = true;
     b->chosen = chosen;
     b->rule = rule->number;
+    b->address = rule->tunnel;
 }
 
-/* One event, and what it changed. */
+/* One event, and what follows from it. */
 static void notify(struct board *b, uint32_t clock, uint8_t event, uint16_t a, const struct dsg_timer_values *timers)
 {
     struct dsg_modem before = b->modem;
@@ -123,7 +145,18 @@ static void notify(struct board *b, uint32_t clock, uint8_t event, uint16_t a, c
         stamp(clock);
         printf("transmitter %s\n", sent ? "off" : "on");
     }
-    if (b->modem.hasucid != before.hasucid || b->modem.ucid != before.ucid) choose(b, clock);
+    /* Into Scanning: what was collected belongs to the channel that is left. Kept, its message would be a repeat for ever
+     * on the next channel, and no table would be accepted there. */
+    if (b->modem.state == DSG_SCANNING && (before.state != DSG_SCANNING || event == DSG_START)) {
+        dsg_empty_collection(&b->held);
+    }
+    if (b->modem.hasucid != before.hasucid || b->modem.ucid != before.ucid) prepare(b, clock);
+}
+
+/* Whether a table would do something now. One that is taken up in another state does nothing, and is a repeat later. */
+static bool wants_table(const struct board *b)
+{
+    return b->modem.state == DSG_CHECKING || dsg_forwards(&b->modem);
 }
 
 /* One body from the tuner. */
@@ -131,8 +164,12 @@ static void take_body(struct board *b, uint32_t clock, const uint8_t *body, size
 {
     struct dsg_received r;
 
-    dsg_receive(&r, &b->held, &b->table, b->slots, sizeof b->slots, b->join, sizeof b->join, body, length);
     stamp(clock);
+    if (!wants_table(b)) {
+        printf("body dropped: no table is wanted in this state\n");
+        return;
+    }
+    dsg_receive(&r, &b->held, &b->table, b->slots, sizeof b->slots, b->join, sizeof b->join, body, length);
     if (r.kind == DSG_RECEIVE_REFUSED) {
         printf("body refused %lu: %s\n", (unsigned long)r.number, words_of(r.number));
         return;
@@ -151,8 +188,9 @@ static void take_body(struct board *b, uint32_t clock, const uint8_t *body, size
         print_count(", ", b->table.classifiercount, "classifier");
         print_count(", ", b->table.channelcount, "channel");
         printf("\n");
+        b->has_table = true;
         notify(b, clock, DSG_TABLE_ACCEPTED, 0, &b->table.timers);
-        choose(b, clock);
+        prepare(b, clock);
         break;
     default:
         printf("refused %lu at byte %lu: %s\n", (unsigned long)r.number, (unsigned long)r.offset, words_of(r.number));
@@ -196,17 +234,77 @@ static void take_frame(struct board *b, uint32_t clock, const uint8_t *frame, si
     }
 }
 
-/* Hex digits, with or without blanks, as bytes. Gives the count, or BYTES_MOST + 1 where they are none or too many. */
+/* Another client: its tunnel is another one. */
+static void take_client(struct board *b, uint8_t kind, uint64_t value)
+{
+    stamp(b->clock);
+    printf("client %u %llu\n", kind, (unsigned long long)value);
+    b->kind = kind;
+    b->value = value;
+    prepare(b, b->clock);
+}
+
+/* ---- the script --------------------------------------------------------------------------------------------- */
+
+static bool is_blank(char c)
+{
+    return c == ' ' || c == '\t';
+}
+
+/* The next word, of letters and digits. Gives the text behind it, or NULL where no word of fewer than `room` stands. */
+static const char *read_word(const char *text, char *word, size_t room)
+{
+    size_t n = 0;
+
+    while (is_blank(*text)) text++;
+    while (isalnum((unsigned char)text[n]) && n < room) n++;
+    if (n == 0 || n == room || (text[n] != '\0' && !is_blank(text[n]))) return NULL;
+    memcpy(word, text, n);
+    word[n] = '\0';
+    return text + n;
+}
+
+/* The value of a digit in a base, or -1. */
+static int digit_in(char c, int base)
+{
+    int digit = isdigit((unsigned char)c) ? c - '0' : isxdigit((unsigned char)c) ? tolower((unsigned char)c) - 'a' + 10 : base;
+
+    return digit < base ? digit : -1;
+}
+
+/* The next number, decimal or 0x.., at most `most`. Gives the text behind it, or NULL where there is none. */
+static const char *read_number(const char *text, uint64_t most, uint64_t *value)
+{
+    char word[24];
+    const char *behind = read_word(text, word, sizeof word), *digits = word;
+    int base = 10, digit;
+
+    if (!behind) return NULL;
+    if (word[0] == '0' && word[1] == 'x') {
+        base = 16;
+        digits += 2;
+    }
+    if (*digits == '\0') return NULL;
+    for (*value = 0; *digits; digits++) {
+        digit = digit_in(*digits, base);
+        if (digit < 0 || *value > (most - (uint64_t)digit) / (uint64_t)base) return NULL;
+        *value = *value * (uint64_t)base + (uint64_t)digit;
+        if (*value > most) return NULL;
+    }
+    return behind;
+}
+
+/* Hex digits, with or without blanks, to the end as bytes. Gives the count, or BYTES_MOST + 1 where they are no bytes or too
+ * many. */
 static size_t read_hex(const char *text, uint8_t *bytes)
 {
     size_t count = 0;
-    int high = -1;
+    int high = -1, digit;
 
     for (; *text; text++) {
-        int digit;
-        if (isspace((unsigned char)*text)) continue;
-        if (!isxdigit((unsigned char)*text) || count == BYTES_MOST) return BYTES_MOST + 1;
-        digit = isdigit((unsigned char)*text) ? *text - '0' : tolower((unsigned char)*text) - 'a' + 10;
+        if (is_blank(*text)) continue;
+        digit = digit_in(*text, 16);
+        if (digit < 0 || count == BYTES_MOST) return BYTES_MOST + 1;
         if (high < 0) {
             high = digit;
         } else {
@@ -217,56 +315,112 @@ static size_t read_hex(const char *text, uint8_t *bytes)
     return high < 0 ? count : BYTES_MOST + 1;
 }
 
-/* The plain events: a word, its number, and whether a value goes with it. */
+static bool at_end(const char *text)
+{
+    return text && text[strspn(text, " \t")] == '\0';
+}
+
+/* The events of a script: a word, its number, and the greatest value that goes with it, if one does. */
 static const struct {
     const char *word;
     uint8_t event;
     bool carries;
+    uint8_t most;
     const char *said; /* what the log says of it, where its effect alone does not */
 } events[] = {
-    {"start", DSG_START, true, "started"},           {"locked", DSG_LOCKED, false, "locked"},
-    {"empty", DSG_SCAN_EMPTY, false, "scan empty"},  {"tick", DSG_TICK, false, NULL},
-    {"up", DSG_UPSTREAM_UP, true, "upstream up"},    {"lost", DSG_UPSTREAM_LOST, false, "upstream lost"},
-    {"enable", DSG_ENABLE, false, "may transmit"},   {"disable", DSG_DISABLE, false, "may not transmit"},
-    {"hunt", DSG_HUNT, false, "told to hunt"},       {"downlost", DSG_DOWNSTREAM_LOST, false, "downstream lost"},
+    {"start", DSG_START, true, 1, "started"},
+    {"locked", DSG_LOCKED, false, 0, "locked"},
+    {"empty", DSG_SCAN_EMPTY, false, 0, "scan empty"},
+    {"tick", DSG_TICK, false, 0, NULL},
+    {"up", DSG_UPSTREAM_UP, true, 255, "upstream up"},
+    {"lost", DSG_UPSTREAM_LOST, false, 0, "upstream lost"},
+    {"enable", DSG_ENABLE, false, 0, "may transmit"},
+    {"disable", DSG_DISABLE, false, 0, "may not transmit"},
+    {"hunt", DSG_HUNT, false, 0, "told to hunt"},
+    {"downlost", DSG_DOWNSTREAM_LOST, false, 0, "downstream lost"},
 };
 
-/* One line of the script. False where it cannot be read. */
-static bool play(struct board *b, char *line)
-{
-    static uint8_t bytes[BYTES_MOST];
-    char word[16];
-    unsigned long clock, value = 0;
-    unsigned kind;
-    int used = 0;
-    size_t i, count;
+/* The greatest value of each kind of client. */
+static const uint64_t value_most[] = {0, 0xFFFF, 0xFFFFFFFFFFFF, 0xFFFF, 0xFFFF};
 
-    line[strcspn(line, "#\r\n")] = '\0';
-    if (line[strspn(line, " \t")] == '\0') return true;
-    if (sscanf(line, " client %u%n", &kind, &used) == 1) {
-        b->kind = (uint8_t)kind;
-        b->value = strtoull(line + used, NULL, 0);
-        return kind <= DSG_CLIENT_APPLICATION;
-    }
-    if (sscanf(line, " %lu %15s%n", &clock, word, &used) != 2 || clock > UINT32_MAX) return false;
-    if (strcmp(word, "body") == 0 || strcmp(word, "frame") == 0) {
-        count = read_hex(line + used, bytes);
-        if (count > BYTES_MOST) return false;
-        if (word[0] == 'b') take_body(b, (uint32_t)clock, bytes, count);
-        else take_frame(b, (uint32_t)clock, bytes, count);
-        return true;
-    }
+/* A client: `rest` is what stands behind the word. False where the line cannot be read. */
+static bool play_client(struct board *b, const char *rest)
+{
+    uint64_t kind, value;
+
+    rest = read_number(rest, DSG_CLIENT_APPLICATION, &kind);
+    if (rest) rest = read_number(rest, value_most[kind], &value);
+    if (!at_end(rest)) return false;
+    take_client(b, (uint8_t)kind, value);
+    return true;
+}
+
+/* An event, likewise. */
+static bool play_event(struct board *b, uint32_t clock, const char *word, const char *rest)
+{
+    uint64_t value = 0;
+    size_t i;
+
     for (i = 0; i < sizeof events / sizeof events[0]; i++) {
         if (strcmp(word, events[i].word) != 0) continue;
-        if (events[i].carries && (sscanf(line + used, "%lu", &value) != 1 || value > 255)) return false;
+        if (events[i].carries) rest = read_number(rest, events[i].most, &value);
+        if (!at_end(rest)) return false;
         if (events[i].said) {
-            stamp((uint32_t)clock);
+            stamp(clock);
             printf("%s\n", events[i].said);
         }
-        notify(b, (uint32_t)clock, events[i].event, (uint16_t)value, NULL);
+        notify(b, clock, events[i].event, (uint16_t)value, NULL);
         return true;
     }
     return false;
+}
+
+/* A body or a frame, likewise. */
+static bool play_bytes(struct board *b, uint32_t clock, bool is_body, const char *rest)
+{
+    static uint8_t bytes[BYTES_MOST];
+    size_t count = read_hex(rest, bytes);
+
+    if (count > BYTES_MOST) return false;
+    if (is_body) take_body(b, clock, bytes, count);
+    else take_frame(b, clock, bytes, count);
+    return true;
+}
+
+/* One line of the script, without its end. False where it cannot be read; then nothing was done. */
+static bool play(struct board *b, const char *line)
+{
+    char word[16];
+    uint64_t clock;
+    const char *rest;
+
+    if (at_end(line)) return true;
+    rest = read_word(line, word, sizeof word);
+    if (rest && strcmp(word, "client") == 0) return play_client(b, rest);
+    rest = read_number(line, UINT32_MAX, &clock);
+    if (rest) rest = read_word(rest, word, sizeof word);
+    if (!rest) return false;
+    b->clock = (uint32_t)clock;
+    if (strcmp(word, "body") == 0) return play_bytes(b, b->clock, true, rest);
+    if (strcmp(word, "frame") == 0) return play_bytes(b, b->clock, false, rest);
+    return play_event(b, b->clock, word, rest);
+}
+
+/* The next line of a script without its end and its comment: 1, 0 at the end of the script, -1 where it is too long or no
+ * text. */
+static int read_line(FILE *script, char *line, size_t room)
+{
+    size_t n = 0;
+    int c;
+
+    while ((c = getc(script)) != EOF && c != '\n') {
+        if (c == '\0' || n + 1 == room) return -1;
+        line[n++] = (char)c;
+    }
+    if (n > 0 && line[n - 1] == '\r') n--;
+    line[n] = '\0';
+    line[strcspn(line, "#")] = '\0';
+    return c == EOF && n == 0 ? 0 : 1;
 }
 
 int main(int argc, char **argv)
@@ -274,25 +428,27 @@ int main(int argc, char **argv)
     static char line[LINE_BYTES];
     struct board *b = &the_board;
     FILE *script = argc > 1 ? fopen(argv[1], "r") : stdin;
-    unsigned long number = 0;
+    unsigned long number = 1;
+    int found;
 
     if (!script) {
         perror(argv[1]);
         return 1;
     }
-    dsg_empty_modem(&b->modem);
-    dsg_empty_collection(&b->held);
-    dsg_empty_table(&b->table);
-    b->kind = DSG_CLIENT_BROADCAST_ALL;
-    dsg_prepare(&b->tunnel, &b->table, b->kind, b->value, 0, 0);
-    while (fgets(line, sizeof line, script)) {
-        number++;
-        if (!play(b, line)) {
-            fprintf(stderr, "line %lu: not a line of a script\n", number);
-            return 1;
-        }
+    begin(b);
+    for (; (found = read_line(script, line, sizeof line)) > 0; number++) {
+        if (!play(b, line)) break;
+    }
+    if (ferror(script)) {
+        perror(argc > 1 ? argv[1] : "standard input");
+        return 1;
+    }
+    if (found != 0) {
+        fflush(stdout);
+        fprintf(stderr, "line %lu cannot be read: %.60s\n", number, found < 0 ? "too long, or no text" : line);
+        return 1;
     }
     printf("frames: %lu forwarded, %lu filtered, %lu of other tunnels, %lu dropped\n", b->forwarded, b->filtered,
            b->other, b->dropped);
-    return 0;
+    return fflush(stdout) == 0 ? 0 : 1;
 }

@@ -4,8 +4,8 @@
 # Sets: machine (x86_64 or aarch64: any other stops here). find_kit sets: kit, the kit's folder, found from where `rt`
 # stands, as `rt` finds it; rattle, the prover; toolchain, the folder of its compiler, its emulator and its C library.
 
-# The kit that this was tried with, as `rt version` names it. Another may call its compiler with other words, lower
-# functions otherwise, or make code for Arm by itself: try tools/library with it, then change this line.
+# The kit that tools/library was tried with, as `rt version` names it. Another may call its compiler with other words,
+# lower functions otherwise, or make code for Arm by itself: try tools/library with it, then change this line.
 kit_tried='rattle-kit-5b logic 064da1ca440f63e7'
 
 stop() {
