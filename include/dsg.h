@@ -11,9 +11,16 @@
  * returns: struct dsg_verdict v; if (dsg_judge_prepared(&v, &tunnel, frame, length)->kind == DSG_JUDGE_FORWARD) .. Every
  * field is written; nothing that was there is read. It is the same call on x86-64 and on Arm.
  *
+ * When a board calls what, from power-up to a change of channel: docs/BOARD.md; in C: examples/host.c.
+ *
  * What only the caller can promise:
- *   - a pointer to a record points to one, and is not null; a pointer to bytes points to as many as its length says, or
- *     is anything, null too, where the length is 0; the compiler's layout of the records is asserted below;
+ *   - a pointer to a record points to one, is not null, and is aligned as C aligns that record; a pointer to bytes points to
+ *     as many as its length says, or is anything, null too, where the length is 0; the compiler's layout of the records is
+ *     asserted below;
+ *   - a record or buffer that is lent was written once, with whatever bytes; one that is only written (an answer, the record
+ *     of dsg_empty_.., the tunnel of dsg_prepare) need not be. Of records of nothing but zeros a collection has nothing
+ *     collected, a modem counts as Idle and in a tunnel no rule fits; a table has timers of 0, which is not the table of
+ *     the empty message;
  *   - what a function may write overlaps nothing else that is lent to the same call.
  * Everything else is tested: no value of a record, no length and no byte is an error of the caller. A record that no
  * calls could have made counts as nothing collected (collection) or as Idle (modem), a count above its limit is read
@@ -26,10 +33,10 @@
  * compare records field by field.
  *
  * Memory that a board needs: the records below and two buffers of DSG_BUFFER_BYTES, some 55,000 bytes. Stack, as
- * examples/stack.c measures it: dsg_list_body 141,000 bytes, dsg_receive 93,000, dsg_read 66,000, dsg_judge 26,000,
- * dsg_prepare 23,000, dsg_list_table 21,000, dsg_empty_table 20,000, dsg_choose 13,000, dsg_collect 4,000; what runs for each
- * frame and event (dsg_judge_prepared, dsg_event, dsg_transmits, dsg_forwards) under 200. Of the C library only memcpy,
- * memmove, memset and the like are called.
+ * examples/stack.c measures it on x86-64 and on Arm: dsg_list_body 140,000 bytes, dsg_receive 92,100, dsg_read 65,200,
+ * dsg_judge 25,900, dsg_prepare 21,400, dsg_list_table 20,600, dsg_empty_table 19,700, dsg_choose 12,600, dsg_collect 1,700;
+ * what runs for each frame and event (dsg_judge_prepared, dsg_event, dsg_transmits, dsg_forwards) under 200. Of the C library
+ * only memcpy, memmove and memset are called.
  */
 #ifndef DSG_H
 #define DSG_H
@@ -233,7 +240,8 @@ struct dsg_collected {
 /* Takes one body.
  * Lent: the record, a slot buffer and a join buffer of DSG_BUFFER_BYTES or more, the body.
  * Written: the record; of the slots, the bytes of the piece; of the join buffer, the bytes of a message that came in
- *   more pieces than one, at its start. Pass the same record and the same buffers, untouched, each time.
+ *   more pieces than one, at its start. Pass the same record and the same buffers, untouched, each time; empty the record
+ *   (dsg_empty_collection) on every entry of the modem into Scanning.
  * Refused (kind 0): all that was lent holds what it held.
  * Definition: collector/specs/Step collectStep; dsg_pieces/specs/Bodies collectedOf. */
 struct dsg_collected *dsg_collect(struct dsg_collected *answer, struct dsg_collection *held, uint8_t *slots,
@@ -308,7 +316,7 @@ struct dsg_verdict *dsg_judge(struct dsg_verdict *answer, const struct dsg_table
                               uint8_t ucid_known, uint8_t ucid, const uint8_t *frame, size_t length);
 
 /* The rule for a client and its classifiers, taken out of the table once, to judge many frames with. Anew after each
- * accepted table and wherever the UCID changes. Lent: the table. Written: the tunnel alone.
+ * accepted table, and where the UCID or the client changes. Lent: the table. Written: the tunnel alone.
  * Definition: preparing/specs/Preparing preparedTunnel. */
 struct dsg_tunnel *dsg_prepare(struct dsg_tunnel *tunnel, const struct dsg_table *table, uint8_t kind, uint64_t value,
                                uint8_t ucid_known, uint8_t ucid);

@@ -4,7 +4,7 @@ use crate::crc::crc32;
 use crate::records::{client, collection, collection_text, modem, modem_text, table, table_text};
 use crate::words::{byte, bytes, flag, hex, long, number, optional, short};
 use dsg::lent::{self, Part, Piece};
-use dsg::{Collection, Event, Modem, Refusal, Table, Verdict, BUFFER_BYTES};
+use dsg::{Collection, Event, Modem, Received, Refusal, Refused, Table, Verdict, BUFFER_BYTES};
 
 /// The largest buffer of `new`.
 const BUFFER_MOST: u64 = 65_536;
@@ -89,7 +89,16 @@ impl Session {
                 self.held = collection(words)?;
                 Some("ok".into())
             }
-            ("piece", [body]) => Some(self.piece(&bytes(body)?)),
+            ("piece", [body]) => {
+                let body = bytes(body)?;
+                let answer = self.piece(&body);
+                Some(self.with_collection(answer))
+            }
+            ("recv", ["j128", body]) => {
+                let body = bytes(body)?;
+                let answer = self.receive(&body);
+                Some(self.with_collection(answer))
+            }
             ("read", ["j128", message]) => {
                 let mut table = Table::default();
                 Some(match table.read(&bytes(message)?) {
@@ -130,7 +139,7 @@ impl Session {
     }
 
     fn piece(&mut self, body: &[u8]) -> String {
-        let answer = match lent::collect(&mut self.held, &mut self.slots, &mut self.join, body) {
+        match lent::collect(&mut self.held, &mut self.slots, &mut self.join, body) {
             Err(refusal) => refused(refusal),
             Ok(Piece::Repeat) => "repeat".into(),
             Ok(Piece::Waiting(empty)) => format!("waiting {empty}"),
@@ -138,10 +147,26 @@ impl Session {
             Ok(Piece::Complete(Part::Join(part))) => {
                 format!("complete join {}", hex(&self.join[part]))
             }
-        };
-        let held = collection_text(&self.held);
+        }
+    }
+
+    /// One body all the way; the lent table is the message's where it is accepted.
+    fn receive(&mut self, body: &[u8]) -> String {
+        let (held, table) = (&mut self.held, &mut self.table);
+        match lent::receive(held, table, &mut self.slots, &mut self.join, body) {
+            Err(Refused::Body(refusal)) => refused(refusal),
+            Err(Refused::Message(refusal)) => format!("message {}", refused(refusal)),
+            Ok(Received::Repeat) => "repeat".into(),
+            Ok(Received::Waiting(empty)) => format!("waiting {empty}"),
+            Ok(Received::Accepted) => format!("accepted {}", table_text(&self.table)),
+        }
+    }
+
+    /// An answer, and the record and the buffers behind it.
+    fn with_collection(&self, answer: String) -> String {
         format!(
-            "{answer} | {held} | {} {}",
+            "{answer} | {} | {} {}",
+            collection_text(&self.held),
             crc32(&self.slots),
             crc32(&self.join)
         )

@@ -29,6 +29,26 @@ impl fmt::Display for Refusal {
 
 impl Error for Refusal {}
 
+/// Why a body that goes all the way gave no table: it was refused itself, or the message that it completed was.
+#[derive(Clone, Copy, Debug, PartialEq, Eq)]
+pub enum Refused {
+    /// The body, with 1 to 5: all that is lent is as it was.
+    Body(Refusal),
+    /// The message, with 6 to 15 and the offset in it: its pieces stay collected, and the table is as it was.
+    Message(Refusal),
+}
+
+impl fmt::Display for Refused {
+    fn fmt(&self, f: &mut fmt::Formatter) -> fmt::Result {
+        match self {
+            Refused::Body(refusal) => write!(f, "body {refusal}"),
+            Refused::Message(refusal) => write!(f, "message {refusal}"),
+        }
+    }
+}
+
+impl Error for Refused {}
+
 /// A refusal by its number alone.
 fn refusal(number: u32, offset: usize) -> Refusal {
     Refusal {
@@ -179,24 +199,6 @@ fn ucid_numbers(ucid: Option<u8>) -> (u8, u8) {
     ucid.map_or((0, 0), |u| (1, u))
 }
 
-/// A collection record with nothing collected.
-#[must_use]
-pub fn empty_collection() -> Collection {
-    ffi::empty_collection()
-}
-
-/// The table of the empty message.
-#[must_use]
-pub fn empty_table() -> Table {
-    ffi::empty_table()
-}
-
-/// An idle modem record.
-#[must_use]
-pub fn empty_modem() -> Modem {
-    ffi::empty_modem()
-}
-
 /// One body: the record and the buffers afterwards are what document 01 says.
 ///
 /// # Errors
@@ -230,20 +232,22 @@ pub fn read_table(table: &mut Table, message: &[u8]) -> Result<(), Refusal> {
 /// One body all the way.
 ///
 /// # Errors
-/// 1 to 5 of the body: nothing lent changes. 6 to 15 of the message that it completed: the table stays as it was.
+/// The body is refused: nothing lent changes. The message that it completed is refused: the record and the buffers hold its
+/// pieces, so that one of them again is a repeat, and the table stays as it was.
 pub fn receive(
     held: &mut Collection,
     table: &mut Table,
     slots: &mut [u8],
     join: &mut [u8],
     body: &[u8],
-) -> Result<Received, Refusal> {
+) -> Result<Received, Refused> {
     let answer = ffi::receive(held, table, slots, join, body);
     match answer.kind {
+        0 => Err(Refused::Body(refusal(answer.number, 0))),
         1 => Ok(Received::Repeat),
         2 => Ok(Received::Waiting(answer.empty)),
         3 => Ok(Received::Accepted),
-        _ => Err(refusal(answer.number, answer.offset)),
+        _ => Err(Refused::Message(refusal(answer.number, answer.offset))),
     }
 }
 

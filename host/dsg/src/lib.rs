@@ -27,16 +27,40 @@ pub mod ffi;
 pub mod lent;
 pub mod records;
 
-pub use lent::{ClientId, Event, Part, Piece, Received, Refusal, Verdict};
+pub use lent::{ClientId, Event, Part, Piece, Received, Refusal, Refused, Verdict};
 pub use records::{Collection, Modem, Table, Tunnel};
 
 /// How many bytes each of the two buffers of a collection has at least.
 pub const BUFFER_BYTES: usize = 24_000;
 
 /// A collection with its buffers, and the table that was read last.
+///
+/// On every entry of the modem into Scanning a board forgets what it collected: the head end keeps its change count, so
+/// the message that gave the table would be a repeat for ever, and no table would be accepted on the next channel.
+///
+/// ```
+/// use dsg::{Event, Modem, Received, Receiver};
+///
+/// let body = [7, 1, 1]; // change count 7, one piece of one, the empty message
+/// let (mut receiver, mut modem) = (Receiver::new(), Modem::idle());
+/// modem.on_event(0, Event::Start { permitted: false })?;
+/// modem.on_event(10, Event::Locked)?;
+/// assert_eq!(receiver.receive(&body), Ok(Received::Accepted));
+/// modem.on_event(20, Event::TableAccepted(receiver.table().timers.into()))?;
+/// assert_eq!(receiver.receive(&body), Ok(Received::Repeat));
+///
+/// modem.on_event(30, Event::DownstreamLost)?; // into Scanning
+/// receiver.forget();
+/// modem.on_event(40, Event::Locked)?;
+/// assert_eq!(receiver.receive(&body), Ok(Received::Accepted));
+/// modem.on_event(50, Event::TableAccepted(receiver.table().timers.into()))?;
+/// assert!(modem.forwards());
+/// # Ok::<(), dsg::Refusal>(())
+/// ```
 pub struct Receiver {
     held: Collection,
     table: Table,
+    count: Option<u8>,
     slots: Box<[u8]>,
     join: Box<[u8]>,
 }
@@ -48,6 +72,7 @@ impl Receiver {
         Receiver {
             held: Collection::default(),
             table: Table::default(),
+            count: None,
             slots: vec![0; BUFFER_BYTES].into(),
             join: vec![0; BUFFER_BYTES].into(),
         }
@@ -55,22 +80,57 @@ impl Receiver {
 
     /// Takes one body. Once its message is complete it is read, and the table is the new one if it is accepted.
     ///
+    /// ```
+    /// use dsg::{Receiver, Refusal, Refused};
+    ///
+    /// let mut receiver = Receiver::new();
+    /// let number_0 = receiver.receive(&[7, 0, 1]);
+    /// assert_eq!(number_0, Err(Refused::Body(Refusal { number: 4, offset: 0 })));
+    /// let empty_rule = receiver.receive(&[7, 1, 1, 50, 0]);
+    /// assert_eq!(empty_rule, Err(Refused::Message(Refusal { number: 13, offset: 0 })));
+    /// assert_eq!(empty_rule.unwrap_err().to_string(), "message refused 13 at 0");
+    /// ```
+    ///
     /// # Errors
     /// The refusal of the body, or of the message that it completed; the table stays.
-    pub fn receive(&mut self, body: &[u8]) -> Result<Received, Refusal> {
-        lent::receive(
+    pub fn receive(&mut self, body: &[u8]) -> Result<Received, Refused> {
+        let received = lent::receive(
             &mut self.held,
             &mut self.table,
             &mut self.slots,
             &mut self.join,
             body,
-        )
+        )?;
+        if received == Received::Accepted {
+            self.count = Some(self.held.count);
+        }
+        Ok(received)
+    }
+
+    /// Forgets what was collected. The table and its count stay.
+    pub fn forget(&mut self) {
+        self.held = Collection::default();
     }
 
     /// The table of the last message that was accepted.
     #[must_use]
     pub fn table(&self) -> &Table {
         &self.table
+    }
+
+    /// The change count of that message; none before one was accepted.
+    ///
+    /// ```
+    /// let mut receiver = dsg::Receiver::new();
+    /// assert_eq!(receiver.count(), None);
+    /// receiver.receive(&[7, 1, 1])?;
+    /// receiver.receive(&[8, 2, 1])?; // a new message begins; the table is still the old one
+    /// assert_eq!(receiver.count(), Some(7));
+    /// # Ok::<(), dsg::Refused>(())
+    /// ```
+    #[must_use]
+    pub fn count(&self) -> Option<u8> {
+        self.count
     }
 }
 
@@ -83,14 +143,14 @@ impl Default for Receiver {
 impl Default for Collection {
     /// Nothing collected.
     fn default() -> Self {
-        lent::empty_collection()
+        ffi::empty_collection()
     }
 }
 
 impl Default for Table {
     /// The table of the empty message: no rule, no classifier, no channel, timers 2, 600, 300 and 1800.
     fn default() -> Self {
-        lent::empty_table()
+        ffi::empty_table()
     }
 }
 
@@ -142,10 +202,11 @@ impl Tunnel {
 }
 
 impl Modem {
-    /// An idle record.
+    /// An idle record, with the timer values 2, 600, 300 and 1800. There is no other to begin with: one of zeros would count
+    /// as idle too, and would not be equal to this one.
     #[must_use]
     pub fn idle() -> Self {
-        lent::empty_modem()
+        ffi::empty_modem()
     }
 
     /// Advances the record by an event at a time of the millisecond clock.

@@ -76,7 +76,7 @@ pub struct Classifier {
 
 /// The four timer values in seconds.
 #[repr(C)]
-#[derive(Clone, Copy, Debug, Default, PartialEq, Eq)]
+#[derive(Clone, Copy, Debug, PartialEq, Eq)]
 pub struct TimerValues {
     /// Tdsg1: how long a channel is checked.
     pub tdsg1: u16,
@@ -86,6 +86,13 @@ pub struct TimerValues {
     pub tdsg3: u16,
     /// Tdsg4: how long a modem rests after a scan.
     pub tdsg4: u16,
+}
+
+impl From<TimerValues> for [u16; 4] {
+    /// Tdsg1 to Tdsg4, as [`crate::Event::TableAccepted`] takes them.
+    fn from(values: TimerValues) -> [u16; 4] {
+        [values.tdsg1, values.tdsg2, values.tdsg3, values.tdsg4]
+    }
 }
 
 /// A table. Of each list the places up to its count are used; a count above 32 is read as 32.
@@ -134,9 +141,9 @@ pub mod state {
     pub const RESTING: u8 = 6;
 }
 
-/// A modem record. Timers in milliseconds, timer values in seconds.
+/// A modem record. Timers in milliseconds, timer values in seconds. [`Modem::idle`] makes the first one.
 #[repr(C)]
-#[derive(Clone, Copy, Debug, Default, PartialEq, Eq)]
+#[derive(Clone, Copy, Debug, PartialEq, Eq)]
 pub struct Modem {
     /// The clock of the last event that was taken.
     pub last: u32,

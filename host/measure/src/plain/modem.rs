@@ -132,13 +132,18 @@ fn act(m: &mut Modem, event: u8, values: [u16; 4]) {
 fn start(m: &mut Modem, clock: u32, permission: bool) {
     *m = Modem {
         last: clock,
+        receive: 0,
+        retry: 0,
         tdsg1: 2,
         tdsg2: 600,
         tdsg3: 300,
         tdsg4: 1800,
+        receiveon: 0,
+        retryon: 0,
         state: state::SCANNING,
         permission: u8::from(permission),
-        ..Modem::default()
+        hasucid: 0,
+        ucid: 0,
     };
 }
 
