@@ -39,8 +39,8 @@
 //! - `new` makes the record count 0, number 0, all flags 0 and all lengths 0. `rec` leaves the
 //!   buffers, `new` leaves the lent table and the modem record. A refused `tread` leaves the lent
 //!   table; `read` and `list` leave everything.
-//! - `piece` and `recv` share the record and the buffers, and may take turns: what one of them has
-//!   completed is a repeat for the other. `recv` lends a new table only where it answers `accepted`.
+//! - `piece` and `recv` share the record and the buffers, and may take turns: a piece that one of
+//!   them stored is a repeat for the other. `recv` lends a new table only where it answers `accepted`.
 //!   At `message refused` the body was accepted: the record and the buffers are what `piece` would
 //!   have made of them, and only the lent table stays as it was.
 
