@@ -6,6 +6,7 @@
 //!   collecting   pieces into a message        document 01, "Collecting pieces"
 //!   elements     a message into elements      "Elements", refusals 6 to 14
 //!   table        elements into a table        "Elements", refusals 3 and 15
+//!   receiving    a body all the way to a table   both of the sections above
 //!   choosing     a rule for a client, and the verdict on a frame   "Choosing and judging"
 //!   modem        one event on the record      "Modem record"
 //!   listing      what `dcdlist` writes        "Listing"
@@ -21,6 +22,7 @@ pub mod elements;
 pub mod listing;
 pub mod modem;
 pub mod protocol;
+pub mod receiving;
 pub mod table;
 
 /// A refusal of document 01, "Refusal numbers".

@@ -26,6 +26,8 @@
 //! - Parts are separated by the word `;`, none of them empty. The head comes first, then rules, then
 //!   classifiers, then channels; any other order is a bad request, as is more than document 01's room.
 //! - PLACE is the rule's index, from 0; another number is a bad request. Both lone `-` are just that.
+//! - TABLE begins with the word `table`, in a request and in an answer: `tset table j128 ..`,
+//!   `accepted table j128 ..`.
 //! - DST is a must in document 01, so it is never `-`. SRC, MASK, START and END may be `-` each by
 //!   itself.
 //!
@@ -37,6 +39,10 @@
 //! - `new` makes the record count 0, number 0, all flags 0 and all lengths 0. `rec` leaves the
 //!   buffers, `new` leaves the lent table and the modem record. A refused `tread` leaves the lent
 //!   table; `read` and `list` leave everything.
+//! - `piece` and `recv` share the record and the buffers, and may take turns: a piece that one of
+//!   them stored is a repeat for the other. `recv` lends a new table only where it answers `accepted`.
+//!   At `message refused` the body was accepted: the record and the buffers are what `piece` would
+//!   have made of them, and only the lent table stays as it was.
 
 pub mod crc;
 pub mod records;
@@ -48,6 +54,7 @@ use crate::choosing::{choose_rule, judge_frame, Verdict};
 use crate::collecting::{self, take_piece, Taken, BUFFER_MIN};
 use crate::listing::list_body;
 use crate::modem;
+use crate::receiving::{receive_body, Received};
 use crate::table::{read_table, Client, Table};
 use crate::Refusal;
 use crc::crc32;
@@ -100,6 +107,7 @@ impl Session {
             Request::New { slot, join, fill } => self.renew(slot, join, fill),
             Request::Rec(record) => set(&mut self.record, record),
             Request::Piece(body) => self.take(&body),
+            Request::Recv(body) => self.receive(&body),
             Request::Read(message) => written(read_table(&message), |table| write_table(&table)),
             Request::TSet(table) => set(&mut self.table, table),
             Request::TRead(message) => {
@@ -125,6 +133,30 @@ impl Session {
     fn take(&mut self, body: &[u8]) -> String {
         let taken = take_piece(&mut self.record, &mut self.slots, &mut self.join, body);
         let answer = written(taken, write_taken);
+        self.with_collection(answer)
+    }
+
+    fn receive(&mut self, body: &[u8]) -> String {
+        let received = receive_body(&mut self.record, &mut self.slots, &mut self.join, body);
+        let answer = written(received, |received| self.lend_received(received));
+        self.with_collection(answer)
+    }
+
+    /// Says what was received; an accepted table becomes the lent one.
+    fn lend_received(&mut self, received: Received) -> String {
+        match received {
+            Received::Repeat => "repeat".to_string(),
+            Received::Waiting(empty) => format!("waiting {empty}"),
+            Received::Accepted(table) => {
+                self.table = table;
+                format!("accepted {}", write_table(&self.table))
+            }
+            Received::MessageRefused(refusal) => format!("message {}", write_refusal(refusal)),
+        }
+    }
+
+    /// The answer, then the record and the sums of both buffers as they are now.
+    fn with_collection(&self, answer: String) -> String {
         format!(
             "{answer} | {} | {} {}",
             write_collection(&self.record),
@@ -162,8 +194,12 @@ fn set<T>(place: &mut T, value: T) -> String {
 fn written<T>(answer: Result<T, Refusal>, write: impl FnOnce(T) -> String) -> String {
     match answer {
         Ok(value) => write(value),
-        Err(refusal) => format!("refused {} {}", refusal.number, refusal.offset),
+        Err(refusal) => write_refusal(refusal),
     }
+}
+
+fn write_refusal(refusal: Refusal) -> String {
+    format!("refused {} {}", refusal.number, refusal.offset)
 }
 
 fn write_taken(taken: Taken) -> String {

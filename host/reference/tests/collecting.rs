@@ -4,11 +4,7 @@ mod support;
 
 use reference::collecting::Record;
 use reference::Refusal;
-use support::{bytes, message_m, Answer, Collection};
-
-fn body(count: u8, number: u8, sequence: u8, piece: &[u8]) -> Vec<u8> {
-    [&[count, number, sequence], piece].concat()
-}
+use support::{body, bytes, message_m, Answer, Collection};
 
 fn record(count: u8, number: u8, pieces: &[(usize, u16)]) -> Record {
     let mut record = Record {

@@ -7,6 +7,10 @@ use std::process::{Command, Stdio};
 
 const M_HEX: &str = "321401010502015004040402002a050601005e050505\
                      321401010602010904040402002a050601005e0606063306010423f10cc0";
+/// The table of M in text.
+const M_TABLE: &str = "table j128 2 600 300 1800 - \
+    ; rule 5 80 01005e050505 - 4:42 - - 0 ; rule 6 9 01005e060606 - 4:42 - - 1 \
+    ; channel 603000000";
 
 /// The answers of one session.
 fn answers(lines: &[&str]) -> Vec<String> {
@@ -35,10 +39,7 @@ fn answers_examples_in_text() {
     assert_eq!(answer(&format!("list 070101{M_HEX}")), listed);
     assert_eq!(answer("list 070201"), "waiting 1");
     assert_eq!(answer("list 0701013200"), "refused 13 at 0");
-    let table = "table j128 2 600 300 1800 - \
-        ; rule 5 80 01005e050505 - 4:42 - - 0 ; rule 6 9 01005e060606 - 4:42 - - 1 \
-        ; channel 603000000";
-    assert_eq!(answer(&format!("read j128 {M_HEX}")), table);
+    assert_eq!(answer(&format!("read j128 {M_HEX}")), M_TABLE);
     assert_eq!(answer("read j128 -"), "table j128 2 600 300 1800 -");
     assert_eq!(answer("read j128 33003300"), "refused 9 2");
 }
@@ -62,6 +63,102 @@ fn answers_pieces_with_the_record_and_both_sums() {
         format!("refused 2 0 | {record}"),
     ];
     assert_eq!(answers(&lines), expected);
+}
+
+#[test]
+fn answers_a_message_of_one_piece_received_all_the_way() {
+    let body = format!("recv j128 070101{M_HEX}");
+    let record = "7 1 1000000000000000 52,0,0,0,0,0,0,0,0,0,0,0,0,0,0,0 | 3481633734 4152666804";
+    let expected = [
+        format!("accepted {M_TABLE} | {record}"),
+        "rule 5 0 01005e050505".to_string(),
+        format!("repeat | {record}"),
+        format!("refused 5 0 | {record}"),
+        "rule 5 0 01005e050505".to_string(),
+    ];
+    let lines = [
+        &body,
+        "choose 4:42 -",
+        &body,
+        "recv j128 070102",
+        "choose 4:42 -",
+    ];
+    assert_eq!(answers(&lines), expected);
+}
+
+#[test]
+fn answers_an_accepted_and_a_refused_message_of_several_pieces() {
+    let (first, second) = M_HEX.split_at(20);
+    let lines = [
+        &format!("recv j128 070202{second}"),
+        "choose 4:42 -",
+        &format!("recv j128 070201{first}"),
+        "choose 4:42 -",
+        "recv j128 08020133",
+        "recv j128 080202003300",
+        "recv j128 080202003300",
+        "choose 4:42 -",
+    ];
+    let refused = "8 2 1100000000000000 1,3,0,0,0,0,0,0,0,0,0,0,0,0,0,0 | 3403002044 881730705";
+    let expected = [
+        "waiting 1 | 7 2 0100000000000000 0,42,0,0,0,0,0,0,0,0,0,0,0,0,0,0 | 3389115540 4152666804",
+        "refused 17 0",
+        &format!("accepted {M_TABLE} | 7 2 1100000000000000 10,42,0,0,0,0,0,0,0,0,0,0,0,0,0,0 | 3670521984 3481633734"),
+        "rule 5 0 01005e050505",
+        "waiting 1 | 8 2 1000000000000000 1,0,0,0,0,0,0,0,0,0,0,0,0,0,0,0 | 2613490589 3481633734",
+        &format!("message refused 9 2 | {refused}"),
+        &format!("repeat | {refused}"),
+        "rule 5 0 01005e050505",
+    ];
+    assert_eq!(answers(&lines), expected);
+}
+
+#[test]
+fn keeps_the_lent_table_after_a_refused_message_of_one_piece() {
+    let lines = [
+        "tset table j128 1 2 3 4 - ; rule 9 9 000000000009 - 0 - - 0",
+        "recv j128 07010133003300",
+        "recv j128 07010133003300",
+        "choose 0 -",
+        "recv j128 080101",
+        "choose 0 -",
+    ];
+    let record = "7 1 1000000000000000 4,0,0,0,0,0,0,0,0,0,0,0,0,0,0,0 | 2690788349 4152666804";
+    let expected = [
+        "ok",
+        &format!("message refused 9 2 | {record}"),
+        &format!("repeat | {record}"),
+        "rule 9 0 000000000009",
+        "accepted table j128 2 600 300 1800 - \
+         | 8 1 1000000000000000 0,0,0,0,0,0,0,0,0,0,0,0,0,0,0,0 | 2690788349 4152666804",
+        "refused 17 0",
+    ];
+    assert_eq!(answers(&lines), expected);
+}
+
+#[test]
+fn takes_turns_of_piece_and_recv_on_one_collection() {
+    let starts = |answer: &str| answer.split(" | ").next().unwrap_or_default().to_string();
+    let lines = [
+        "piece 07020133",
+        "recv j128 07020133",
+        "recv j128 07020200",
+        "piece 07020200",
+        "recv j128 08020133",
+        "piece 08020200",
+        "recv j128 08020200",
+    ];
+    let answered: Vec<String> = answers(&lines).iter().map(|line| starts(line)).collect();
+    let expected = [
+        "waiting 1",
+        "repeat",
+        "accepted table j128 2 600 300 1800 -",
+        "repeat",
+        "waiting 1",
+        "complete join 3300",
+        "repeat",
+    ];
+    assert_eq!(answered, expected);
 }
 
 #[test]
@@ -172,7 +269,7 @@ fn gives_back_a_broken_modem_record() {
 }
 
 /// Lines that parse, each with some that nearly do.
-const NEARLY: [(&str, &[&str]); 12] = [
+const NEARLY: [(&str, &[&str]); 13] = [
     (
         "new 65536 0 255",
         &[
@@ -219,6 +316,21 @@ const NEARLY: [(&str, &[&str]); 12] = [
             "read j128 - -",
             "read j112 -",
             "read j128 --",
+        ],
+    ),
+    (
+        "recv j128 000101",
+        &[
+            "recv 000101",
+            "recv j128",
+            "recv i25 000101",
+            "recv J128 000101",
+            "recv j128 000101 000101",
+            "recv j128 000101 ",
+            "recv j128  000101",
+            "recv 000101 j128",
+            "recv j128 00010",
+            "recv j128 00010G",
         ],
     ),
     (
@@ -337,6 +449,9 @@ fn a_bad_request_changes_nothing() {
     ];
     let last = "ok | scanning 6 1 - 2 600 300 1800 - - adv | 0 0";
     assert_eq!(answers(&lines), ["ok", BAD_REQUEST, last]);
+    let received = answers(&["recv i25 070101", "recv j128 070101"]);
+    assert_eq!(received[0], BAD_REQUEST);
+    assert!(received[1].starts_with("accepted"));
 }
 
 const RULE: &str = "rule 1 9 000000000001 - - - - 0";

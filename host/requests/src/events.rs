@@ -6,18 +6,82 @@ use crate::tables::timers;
 use reference::modem::{step, Event, Fault, Record, State, BACK_MS, TIMER_MAX_MS};
 use reference::protocol::request::Request;
 
-/// A record, then events that follow it.
 pub fn scenario(random: &mut Random) -> Vec<Request> {
+    if random.once_in(3) {
+        timer_end(random)
+    } else {
+        run(random)
+    }
+}
+
+/// A record, then events that follow it.
+fn run(random: &mut Random) -> Vec<Request> {
     let mut record = first_record(random);
     let mut requests = vec![Request::MRec(record.clone())];
     let few = random.between(1, 8);
     for _ in 0..random.pick(&[few, few, few, 30]) {
         let now = next_clock(random, &record);
         let event = next_event(random, &record);
-        requests.push(Request::MEv(now, event));
-        record = step(&record, now, event).unwrap_or(record);
+        requests.push(told(&mut record, now, event));
     }
     requests
+}
+
+/// A timer that runs, often one that an event has just loaded, then events about its end: just
+/// before, at and just after it.
+fn timer_end(random: &mut Random) -> Vec<Request> {
+    let state = random.pick(&[
+        State::Scanning,
+        State::Checking,
+        State::OneWay,
+        State::OneWay,
+        State::Ranging,
+        State::TwoWay,
+        State::TwoWay,
+        State::Resting,
+    ]);
+    let mut record = sound_record(random, state);
+    let mut requests = vec![Request::MRec(record.clone())];
+    if state == State::Scanning || random.once_in(2) {
+        let now = record.last.wrapping_add(random.below(3_000) as u32);
+        let event = loading_event(random, state);
+        requests.push(told(&mut record, now, event));
+    }
+    let timer = if random.once_in(3) {
+        record.receive
+    } else {
+        record.retry.or(record.receive)
+    };
+    let end = record.last.wrapping_add(timer.unwrap_or(0));
+    for now in [end.wrapping_sub(1), end, end.wrapping_add(1)] {
+        let any = next_event(random, &record);
+        let event = random.pick(&[Event::Tick, Event::Tick, any]);
+        if !random.once_in(3) {
+            requests.push(told(&mut record, now, event));
+        }
+    }
+    requests
+}
+
+/// An event that loads a timer in that state, where there is one.
+fn loading_event(random: &mut Random, state: State) -> Event {
+    let table = Event::TableAccepted(timers(random));
+    let loading: &[Event] = match state {
+        State::Scanning => &[Event::Locked, Event::ScanEmpty],
+        State::Checking => &[table],
+        State::OneWay => &[table, Event::Packet],
+        State::Ranging | State::TwoWay => &[table, Event::Packet, Event::UpstreamLost],
+        State::Idle | State::Resting => &[Event::Tick],
+    };
+    random.pick(loading)
+}
+
+/// The request for an event; the record becomes what the event makes of it.
+fn told(record: &mut Record, now: u32, event: Event) -> Request {
+    if let Ok(next) = step(record, now, event) {
+        *record = next;
+    }
+    Request::MEv(now, event)
 }
 
 fn first_record(random: &mut Random) -> Record {
@@ -57,7 +121,7 @@ fn sound_record(random: &mut Random, state: State) -> Record {
         state,
         last: clock(random),
         permitted,
-        ucid: (state == State::TwoWay).then(|| random.byte()),
+        ucid: (state == State::TwoWay).then(|| ucid(random)),
         timers: sound_timers(random),
         receive: (!still).then_some(receive),
         retry: retries.then_some(retry),
@@ -87,7 +151,7 @@ fn broken_record(random: &mut Random) -> Record {
             record.permitted = false;
             record.retry = Some(timer(random));
         }
-        Fault::UcidOutsideTwoWay => record.ucid = Some(random.byte()),
+        Fault::UcidOutsideTwoWay => record.ucid = Some(ucid(random)),
         Fault::TwoWayWithoutUcid => record.ucid = None,
         Fault::TransmitterNotPermitted => record.permitted = false,
         Fault::Tdsg1Zero => record.timers[0] = 0,
@@ -116,6 +180,12 @@ fn states_of(fault: Fault) -> &'static [State] {
             &[Scanning, Checking, OneWay, Ranging, TwoWay, Resting]
         }
     }
+}
+
+/// A UCID, often at an end of its range.
+fn ucid(random: &mut Random) -> u8 {
+    let any = random.byte();
+    random.pick(&[0, 255, any, any])
 }
 
 /// Milliseconds that a timer may have left.
@@ -155,7 +225,7 @@ fn next_clock(random: &mut Random, record: &Record) -> u32 {
 fn next_event(random: &mut Random, record: &Record) -> Event {
     let start = Event::Start(random.once_in(2));
     let table = Event::TableAccepted(timers(random));
-    let up = Event::UpstreamUp(random.byte());
+    let up = Event::UpstreamUp(ucid(random));
     let state = if record.counts_as_idle() {
         State::Idle
     } else {

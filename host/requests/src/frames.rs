@@ -2,33 +2,39 @@
 
 use crate::messages::message_of;
 use crate::random::Random;
-use crate::tables::{client, free_table, sound_table, ucid};
+use crate::tables::{client, free_table, full_table, marked_table, sound_table, ucid};
 use reference::protocol::request::Request;
 use reference::table::{Classifier, Client, Rule, Table};
 
 /// A lent table and some requests about it.
 pub fn scenario(random: &mut Random) -> Vec<Request> {
     let (table, lend) = lent_table(random);
-    let reached = |rule: &&Rule| !rule.clients.is_empty();
-    let rules: Vec<&Rule> = table.rules.iter().filter(reached).collect();
-    let questions = if rules.is_empty() {
-        2
-    } else {
-        random.between(4, 24)
-    };
+    let many = random.between(4, 24);
     let mut requests = vec![lend];
-    requests.extend((0..questions).map(|_| question(random, &table, &rules)));
+    requests.extend(questions(random, &table, many));
     requests
 }
 
 fn lent_table(random: &mut Random) -> (Table, Request) {
-    if random.once_in(3) {
-        let table = sound_table(random);
-        let message = message_of(random, &table);
-        return (table, Request::TRead(message));
-    }
-    let table = free_table(random);
-    (table.clone(), Request::TSet(table))
+    let table = match random.below(8) {
+        0..=1 => sound_table(random),
+        2 => marked_table(random),
+        3..=4 => full_table(random),
+        _ => {
+            let table = free_table(random);
+            return (table.clone(), Request::TSet(table));
+        }
+    };
+    let message = message_of(random, &table);
+    (table, Request::TRead(message))
+}
+
+/// So many questions about a table, fewer if no rule of it reaches a client.
+pub fn questions(random: &mut Random, table: &Table, many: usize) -> Vec<Request> {
+    let reached = |rule: &&Rule| !rule.clients.is_empty();
+    let rules: Vec<&Rule> = table.rules.iter().filter(reached).collect();
+    let many = if rules.is_empty() { many.min(2) } else { many };
+    (0..many).map(|_| question(random, table, &rules)).collect()
 }
 
 /// A question about a client of one of these rules, if there are any.

@@ -1,7 +1,7 @@
 //! Yields requests without end, scenario by scenario, from a seed.
 
 use crate::random::Random;
-use crate::{events, frames, messages, pieces};
+use crate::{events, frames, messages, pieces, receiving};
 use reference::protocol::request::Request;
 use std::collections::VecDeque;
 
@@ -9,6 +9,7 @@ use std::collections::VecDeque;
 #[derive(Clone, Copy, Debug, PartialEq, Eq)]
 pub enum Area {
     Collect,
+    Receive,
     Read,
     Judge,
     Modem,
@@ -20,6 +21,7 @@ impl Area {
     pub fn named(word: &str) -> Option<Area> {
         match word {
             "collect" => Some(Area::Collect),
+            "receive" => Some(Area::Receive),
             "read" => Some(Area::Read),
             "judge" => Some(Area::Judge),
             "modem" => Some(Area::Modem),
@@ -63,16 +65,18 @@ impl Iterator for Generator {
 fn scenario(random: &mut Random, area: Area) -> Vec<Request> {
     match area {
         Area::Collect => pieces::scenario(random),
+        Area::Receive => receiving::scenario(random),
         Area::Read => vec![reading(random)],
         Area::Judge => frames::scenario(random),
         Area::Modem => events::scenario(random),
         Area::List => vec![listing(random)],
         Area::All => {
-            let area = match random.below(40) {
-                0..=23 => Area::Read,
-                24..=31 => Area::List,
-                32..=34 => Area::Collect,
-                35..=36 => Area::Judge,
+            let area = match random.below(60) {
+                0..=32 => Area::Read,
+                33..=43 => Area::List,
+                44..=46 => Area::Collect,
+                47..=49 => Area::Judge,
+                50..=51 => Area::Receive,
                 _ => Area::Modem,
             };
             scenario(random, area)

@@ -1,7 +1,7 @@
 //! Makes bench requests from a seed, and compares the answers that programs give to them.
 //!
 //!   generator    requests of an area, scenario by scenario
-//!   pieces, messages, rows, tables, frames, events   the scenarios' parts, by subject
+//!   pieces, receiving, messages, rows, tables, frames, events   the scenarios' parts, by subject
 //!   random       the numbers behind them
 //!   programs     a program that answers requests through pipes
 //!   tally        how often each answer, row and broken record was seen
@@ -19,6 +19,7 @@ pub mod messages;
 pub mod pieces;
 pub mod programs;
 pub mod random;
+pub mod receiving;
 pub mod rows;
 pub mod shortening;
 pub mod tables;

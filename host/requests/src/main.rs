@@ -15,7 +15,7 @@ use std::process::ExitCode;
 const USAGE: &str = "requests make SEED COUNT [AREA]
 requests run PROGRAM SEED COUNT [AREA]
 requests compare PROGRAM OTHER SEED COUNT [AREA]
-AREA: collect, read, judge, modem, list or all (the default)";
+AREA: collect, receive, read, judge, modem, list or all (the default)";
 
 /// Which requests: `SEED COUNT [AREA]`.
 #[derive(Clone, Copy)]

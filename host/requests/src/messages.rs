@@ -3,12 +3,16 @@
 
 use crate::random::Random;
 use crate::rows::{encode, leaf, parent, table_nodes, Form, Node};
-use crate::tables::sound_table;
+use crate::tables::{full_table, marked_table, sound_table};
 use reference::table::{Table, MESSAGE_MAX};
 
 /// A message: one in three whole, the others with something wrong or at least odd.
 pub fn message(random: &mut Random) -> Vec<u8> {
-    let table = sound_table(random);
+    let table = match random.below(24) {
+        0 => full_table(random),
+        1 => marked_table(random),
+        _ => sound_table(random),
+    };
     let mut top = table_nodes(random, &table);
     if random.once_in(3) {
         return encode(&top);
@@ -79,11 +83,13 @@ fn child_at_limit(random: &mut Random, row: u8) -> Node {
     let pair = random.pair().to_be_bytes();
     let ucids = random.pick(&[0, 1, 15, 16, 17, 100]);
     let timer = random.pick(&[2, 3, 4, 5]);
-    match (row, random.once_in(2)) {
-        (50, true) => leaf(6, &pair),
-        (50, false) => leaf(3, &vec![7; ucids]),
-        (51, true) => leaf(1, &random.pick(&CHANNELS).to_be_bytes()),
-        (51, false) => leaf(timer, &pair),
+    let broadcast = random.pick(&[vec![], vec![0, 0], vec![0, 1], pair.to_vec()]);
+    match (row, random.below(6)) {
+        (50, 0..=1) => leaf(6, &pair),
+        (50, 2..=3) => leaf(3, &vec![7; ucids]),
+        (50, _) => parent(4, vec![leaf(1, &broadcast)]),
+        (51, 0..=2) => leaf(1, &random.pick(&CHANNELS).to_be_bytes()),
+        (51, _) => leaf(timer, &pair),
         _ => leaf(2, &pair),
     }
 }
@@ -192,7 +198,7 @@ fn fill_up(random: &mut Random, bytes: &mut Vec<u8>) {
     let target = random.pick(&[
         MESSAGE_MAX - 1,
         MESSAGE_MAX,
-        MESSAGE_MAX,
+        MESSAGE_MAX + 1,
         MESSAGE_MAX + 1,
         any,
     ]);

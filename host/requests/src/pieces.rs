@@ -19,26 +19,32 @@ fn pieces(bodies: Vec<Vec<u8>>) -> impl Iterator<Item = Request> {
     bodies.into_iter().map(Request::Piece)
 }
 
-fn new_buffers(random: &mut Random, fill: u8) -> Request {
+/// Sizes of the slot buffer and the join buffer that do.
+pub fn good_sizes(random: &mut Random) -> [usize; 2] {
     let sizes = [BUFFER_MIN, BUFFER_MIN, BUFFER_MIN + 1, BUFFER_MIN + 700];
-    Request::New {
-        slot: random.pick(&sizes),
-        join: random.pick(&sizes),
-        fill,
-    }
+    [random.pick(&sizes), random.pick(&sizes)]
 }
 
-/// Pieces, good and bad, with one buffer or both too short; then buffers that do.
+/// Sizes on either side of the least one, now and then far from it.
+pub fn any_sizes(random: &mut Random) -> [usize; 2] {
+    let near = [BUFFER_MIN - 1, BUFFER_MIN, BUFFER_MIN + 1].as_slice();
+    let far = [0, 1, MESSAGE_MAX, BUFFER_MIN - 1, BUFFER_MIN, BUFFER_MAX].as_slice();
+    let sizes = random.pick(&[near, near, far]);
+    [random.pick(sizes), random.pick(sizes)]
+}
+
+fn new_buffers([slot, join]: [usize; 2], fill: u8) -> Request {
+    Request::New { slot, join, fill }
+}
+
+/// Pieces, good and bad, with one buffer, both or none too short; then buffers that do.
 fn short_buffers(random: &mut Random) -> Vec<Request> {
-    let sizes = [0, 1, BUFFER_MIN - 1, BUFFER_MIN - 1, BUFFER_MIN, BUFFER_MAX];
-    let new = Request::New {
-        slot: random.pick(&sizes),
-        join: random.pick(&sizes),
-        fill: random.byte(),
-    };
-    let mut requests = vec![new];
-    requests.extend(pieces(vec![body(random, 1, 1, b"x"), refused_body(random)]));
-    requests.push(new_buffers(random, 0));
+    let mut requests = Vec::new();
+    for _ in 0..random.between(1, 3) {
+        requests.push(new_buffers(any_sizes(random), random.byte()));
+        requests.extend(pieces(vec![body(random, 1, 1, b"x"), refused_body(random)]));
+    }
+    requests.push(new_buffers(good_sizes(random), 0));
     requests
 }
 
@@ -47,27 +53,32 @@ fn run(random: &mut Random) -> Vec<Request> {
     let message = cuttable_message(random);
     let count = random.byte();
     let bodies = cut(random, count, &message);
-    let mut arrivals = bodies.clone();
-    random.shuffle(&mut arrivals);
-    for _ in 0..random.pick(&[0, 1, 2, bodies.len()]) {
-        let at = random.below(arrivals.len() + 1);
-        arrivals.insert(at, random.pick(&bodies));
-    }
-    for _ in 0..random.pick(&[0, 0, 1, 3]) {
-        let at = random.below(arrivals.len() + 1);
-        arrivals.insert(at, intruder(random, &bodies));
-    }
+    let mut arrivals = arrivals(random, &bodies);
     arrivals.push(random.pick(&bodies));
     let mut requests = Vec::new();
     if random.once_in(2) {
-        let fill = random.byte();
-        requests.push(new_buffers(random, fill));
+        requests.push(new_buffers(good_sizes(random), random.byte()));
     }
     requests.extend(pieces(arrivals));
     if random.once_in(8) {
         requests.push(Request::TRead(message));
     }
     requests
+}
+
+/// All bodies in any order, some of them again, with others between.
+pub fn arrivals(random: &mut Random, bodies: &[Vec<u8>]) -> Vec<Vec<u8>> {
+    let mut arrivals = bodies.to_vec();
+    random.shuffle(&mut arrivals);
+    for _ in 0..random.pick(&[0, 1, 2, bodies.len()]) {
+        let at = random.below(arrivals.len() + 1);
+        arrivals.insert(at, random.pick(bodies));
+    }
+    for _ in 0..random.pick(&[0, 0, 1, 3]) {
+        let at = random.below(arrivals.len() + 1);
+        arrivals.insert(at, intruder(random, bodies));
+    }
+    arrivals
 }
 
 /// A message that sixteen pieces can carry, mostly a short one.
@@ -86,11 +97,20 @@ fn cuttable_message(random: &mut Random) -> Vec<u8> {
     }
 }
 
-/// Bodies that carry the message, cut anywhere; some pieces may be empty.
+/// Bodies that carry the message in any number of pieces that it allows.
 fn cut(random: &mut Random, count: u8, message: &[u8]) -> Vec<Vec<u8>> {
-    let fewest = message.len().div_ceil(PIECE_MAX).max(1);
+    let fewest = fewest_pieces(message);
     let any = random.between(fewest, SLOTS);
     let number = random.pick(&[fewest, any, any, SLOTS]);
+    cut_into(random, number, count, message)
+}
+
+pub fn fewest_pieces(message: &[u8]) -> usize {
+    message.len().div_ceil(PIECE_MAX).max(1)
+}
+
+/// So many bodies that carry the message, cut anywhere; some pieces may be empty.
+pub fn cut_into(random: &mut Random, number: usize, count: u8, message: &[u8]) -> Vec<Vec<u8>> {
     let mut rest = message;
     let mut bodies = Vec::new();
     for sequence in 1..=number {
@@ -139,7 +159,7 @@ pub fn any_body(random: &mut Random) -> Vec<u8> {
 }
 
 /// A body that some test of 2 to 5 refuses.
-fn refused_body(random: &mut Random) -> Vec<u8> {
+pub fn refused_body(random: &mut Random) -> Vec<u8> {
     let high = random.between(SLOTS + 1, 255) as u8;
     let number = random.between(1, SLOTS) as u8;
     let length = random.between(0, 8);
@@ -164,7 +184,7 @@ fn invented_record(random: &mut Random) -> Vec<Request> {
     if !random.once_in(4) {
         break_record(random, &mut record);
     }
-    let mut requests = vec![new_buffers(random, fill), Request::Rec(record)];
+    let mut requests = vec![new_buffers(good_sizes(random), fill), Request::Rec(record)];
     if random.once_in(3) {
         requests.push(Request::Piece(refused_body(random)));
     }
@@ -174,7 +194,7 @@ fn invented_record(random: &mut Random) -> Vec<Request> {
     requests
 }
 
-fn sound_record(random: &mut Random) -> Record {
+pub fn sound_record(random: &mut Random) -> Record {
     let number = random.pick(&[1, 2, 2, 3, 5, 15, 16]);
     let mut record = Record {
         count: random.byte(),
@@ -191,7 +211,7 @@ fn sound_record(random: &mut Random) -> Record {
     record
 }
 
-fn break_record(random: &mut Random, record: &mut Record) {
+pub fn break_record(random: &mut Random, record: &mut Record) {
     let number = usize::from(record.number);
     let slot = random.below(SLOTS);
     let filled = record.filled.iter().position(|&filled| filled).unwrap_or(0);
@@ -211,7 +231,7 @@ fn break_record(random: &mut Random, record: &mut Record) {
 }
 
 /// A body of the record's run: what the slot holds, or something near it.
-fn fitting_body(random: &mut Random, record: &Record, fill: u8) -> Vec<u8> {
+pub fn fitting_body(random: &mut Random, record: &Record, fill: u8) -> Vec<u8> {
     let slot = random.below(record.number.into());
     let length = usize::from(record.lengths[slot]).min(PIECE_MAX);
     let mut piece = vec![fill; length];

@@ -83,6 +83,7 @@ fn simplify(request: &Request, mut still: impl FnMut(Request) -> Option<bool>) -
     };
     match request {
         Request::Piece(body) => fewer(body, &Request::Piece),
+        Request::Recv(body) => fewer(body, &Request::Recv),
         Request::Read(message) => fewer(message, &Request::Read),
         Request::TRead(message) => fewer(message, &Request::TRead),
         Request::List(body) => fewer(body, &Request::List),

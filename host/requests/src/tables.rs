@@ -57,6 +57,77 @@ pub fn sound_table(random: &mut Random) -> Table {
     table
 }
 
+/// A sound table of sixteen rules, each for a client of its own and with a classifier of its own:
+/// together the classifiers have each of their four parts, or not, in all sixteen ways.
+pub fn marked_table(random: &mut Random) -> Table {
+    let mut table = Table::default();
+    for marks in 0..16 {
+        table.rules.push(Rule {
+            number: marks,
+            clients: vec![Client::Application(marks.into())],
+            ..free_rule(random)
+        });
+        let marked = |part: u8| marks >> part & 1 == 1;
+        table.classifiers.push(Classifier {
+            source: marked(0).then(|| random.pick(&SOURCES)),
+            mask: marked(1).then(|| random.pick(&MASKS)),
+            port_start: marked(2).then(|| random.pick(&PORTS)),
+            port_end: marked(3).then(|| random.pick(&PORTS)),
+            ..free_classifier(random)
+        });
+    }
+    number_classifiers(random, &mut table.classifiers);
+    for (rule, classifier) in table.rules.iter_mut().zip(&table.classifiers) {
+        rule.classifiers = vec![classifier.number];
+    }
+    random.shuffle(&mut table.rules);
+    table
+}
+
+/// A sound table with every list full and nothing twice in a list, so that each place decides for
+/// someone.
+pub fn full_table(random: &mut Random) -> Table {
+    let mut table = Table {
+        rules: (0..RULES_MAX).map(|_| free_rule(random)).collect(),
+        classifiers: (0..CLASSIFIERS_MAX)
+            .map(|_| free_classifier(random))
+            .collect(),
+        channels: (1..=CHANNELS_MAX as u32).map(|n| 62_500 * n).collect(),
+        ..Table::default()
+    };
+    number_classifiers(random, &mut table.classifiers);
+    let numbers: Vec<u16> = table.classifiers.iter().map(|c| c.number).collect();
+    let rule_numbers = different(random, 0..=255, RULES_MAX);
+    for (rule, number) in table.rules.iter_mut().zip(rule_numbers) {
+        rule.number = number;
+        rule.ucids = different(random, 0..=255, UCIDS_MAX);
+        let first = random.pick(&[0, CLASSIFIERS_MAX - NUMBERS_MAX]);
+        rule.classifiers = different(random, numbers[first..].to_vec(), NUMBERS_MAX);
+    }
+    for (value, rule) in (1..).step_by(CLIENTS_MAX).zip(&mut table.rules) {
+        rule.clients = (value..).map(client_of).take(CLIENTS_MAX).collect();
+    }
+    table
+}
+
+/// So many of the items, in any order.
+fn different<T>(random: &mut Random, items: impl IntoIterator<Item = T>, count: usize) -> Vec<T> {
+    let mut items: Vec<T> = items.into_iter().collect();
+    random.shuffle(&mut items);
+    items.truncate(count);
+    items
+}
+
+/// A client for each value, other than 0, and of each kind in turn.
+fn client_of(value: u16) -> Client {
+    match value % 4 {
+        0 => Client::Broadcast(value),
+        1 => Client::Mac([0, 0x10, 0x20, 0x30, 0x40, value as u8]),
+        2 => Client::CaSystem(value),
+        _ => Client::Application(value),
+    }
+}
+
 /// Numbers that differ, from 1 on or up to 65,535.
 fn number_classifiers(random: &mut Random, classifiers: &mut [Classifier]) {
     let first = random.pick(&[1, 255, 65_536 - CLASSIFIERS_MAX]);
@@ -86,11 +157,20 @@ pub fn timers(random: &mut Random) -> [u16; 4] {
 }
 
 fn free_rule(random: &mut Random) -> Rule {
+    let differing = random.once_in(3);
+    let listed = |random: &mut Random| {
+        let any = random.byte();
+        if differing {
+            any
+        } else {
+            random.pick(&UCIDS)
+        }
+    };
     Rule {
         number: random.pick(&[0, 1, 2, 3, 200, 255]),
         priority: random.pick(&PRIORITIES),
         tunnel: random.pick(&TUNNELS),
-        ucids: many(random, UCIDS_MAX, |random| random.pick(&UCIDS)),
+        ucids: many(random, UCIDS_MAX, listed),
         clients: many(random, CLIENTS_MAX, client),
         classifiers: many(random, NUMBERS_MAX, classifier_number),
     }

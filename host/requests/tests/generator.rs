@@ -5,8 +5,9 @@ use reference::protocol::{Session, BAD_REQUEST};
 use requests::generator::{Area, Generator};
 use requests::tally::Tally;
 
-const AREAS: [Area; 6] = [
+const AREAS: [Area; 7] = [
     Area::Collect,
+    Area::Receive,
     Area::Read,
     Area::Judge,
     Area::Modem,
@@ -36,19 +37,80 @@ fn roundtrips_what_it_makes() {
 }
 
 #[test]
-fn every_line_of_the_tally_is_seen_in_20000_requests() {
+fn has_a_word_for_each_area() {
+    let words = [
+        "collect", "receive", "read", "judge", "modem", "list", "all",
+    ];
+    assert_eq!(words.map(Area::named), AREAS.map(Some));
+    assert_eq!(Area::named("recv"), None);
+}
+
+const NONE: [&str; 0] = [];
+
+/// The tally of what the independent program answers.
+fn tallied(seed: u64, area: Area, count: usize) -> Tally {
     let (mut session, mut tally) = (Session::default(), Tally::default());
-    for request in Generator::new(1, Area::All).take(20_000) {
+    for request in Generator::new(seed, area).take(count) {
         let answer = session.answer(request.clone());
         assert_ne!(answer, BAD_REQUEST, "{request}");
         tally.count(&request, &answer);
     }
-    let missed: Vec<&str> = tally
-        .lines()
+    tally
+}
+
+/// The lines that were never counted, of those that `asked` picks.
+fn missed(tally: &Tally, asked: impl Fn(&str) -> bool) -> Vec<&str> {
+    let lines = tally.lines().filter(|&(line, _)| asked(line));
+    lines
         .filter(|&(_, count)| count == 0)
         .map(|(line, _)| line)
+        .collect()
+}
+
+#[test]
+fn every_line_of_the_tally_is_seen_in_20000_requests_and_no_other() {
+    let tally = tallied(1, Area::All, 20_000);
+    assert_eq!(missed(&tally, |_| true), NONE);
+    let listed = Tally::default();
+    assert!(tally
+        .lines()
+        .map(|(line, _)| line)
+        .eq(listed.lines().map(|(line, _)| line)));
+}
+
+#[test]
+fn every_line_about_recv_is_seen_in_5000_requests_of_its_area() {
+    let tally = tallied(1, Area::Receive, 5_000);
+    assert_eq!(missed(&tally, |line| line.contains("recv")), NONE);
+    assert_eq!(missed(&tally, |line| line.contains("kept over")), NONE);
+}
+
+#[test]
+fn every_line_about_lent_tables_is_seen_in_10000_requests_of_judging() {
+    let tally = tallied(1, Area::Judge, 10_000);
+    assert_eq!(missed(&tally, |line| line.starts_with("question: ")), NONE);
+    assert_eq!(missed(&tally, |line| line.starts_with("table ")), NONE);
+    assert_eq!(
+        missed(&tally, |line| line.contains("classifier with")),
+        NONE
+    );
+}
+
+#[test]
+fn every_line_about_modems_is_seen_in_10000_requests_of_their_area() {
+    let tally = tallied(1, Area::Modem, 10_000);
+    assert_eq!(missed(&tally, |line| line.contains("modem")), NONE);
+}
+
+#[test]
+fn a_message_that_recv_completes_has_lines_for_06_to_15_and_none_for_03() {
+    let tally = Tally::default();
+    let lines = tally.lines().map(|(line, _)| line);
+    let refused: Vec<&str> = lines
+        .filter_map(|line| line.strip_prefix("recv: message refused "))
         .collect();
-    assert!(missed.is_empty(), "{missed:?}");
+    let numbers = ["06", "07", "08", "09", "10", "11", "12", "13", "14", "15"];
+    assert_eq!(refused, numbers);
 }
 
 #[test]

@@ -16,6 +16,17 @@ fn keeps_the_one_request_that_matters() {
 }
 
 #[test]
+fn shortens_the_body_of_a_recv() {
+    let requests: Vec<Request> = Generator::new(1, Area::Receive).take(200).collect();
+    let sought = |request: &Request| matches!(request, Request::Recv(body) if body.len() > 3);
+    let shortened = shorten(requests, |requests| requests.iter().any(sought));
+    let [Request::Recv(body)] = &shortened[..] else {
+        panic!("{shortened:?}");
+    };
+    assert_eq!(body.len(), 4);
+}
+
+#[test]
 fn keeps_an_earlier_request_that_is_needed() {
     let lending = Request::TRead(vec![]);
     let mut requests = vec![lending.clone()];

@@ -17,6 +17,7 @@ pub enum Request {
     New { slot: usize, join: usize, fill: u8 },
     Rec(collecting::Record),
     Piece(Vec<u8>),
+    Recv(Vec<u8>),
     Read(Vec<u8>),
     TSet(Table),
     TRead(Vec<u8>),
@@ -40,6 +41,7 @@ impl Request {
             }),
             ("rec", rest) => parse_collection(rest).map(Request::Rec),
             ("piece", [body]) => bytes(body).map(Request::Piece),
+            ("recv", ["j128", body]) => bytes(body).map(Request::Recv),
             ("read", ["j128", message]) => bytes(message).map(Request::Read),
             ("tset", rest) => parse_table(rest).map(Request::TSet),
             ("tread", ["j128", message]) => bytes(message).map(Request::TRead),
@@ -71,6 +73,7 @@ impl Request {
             Request::New { .. } => "new",
             Request::Rec(_) => "rec",
             Request::Piece(_) => "piece",
+            Request::Recv(_) => "recv",
             Request::Read(_) => "read",
             Request::TSet(_) => "tset",
             Request::TRead(_) => "tread",
@@ -91,7 +94,9 @@ impl Display for Request {
             Request::New { slot, join, fill } => write!(f, "{slot} {join} {fill}"),
             Request::Rec(record) => write!(f, "{}", write_collection(record)),
             Request::Piece(body) | Request::List(body) => write!(f, "{}", hex(body)),
-            Request::Read(message) | Request::TRead(message) => write!(f, "j128 {}", hex(message)),
+            Request::Recv(bytes) | Request::Read(bytes) | Request::TRead(bytes) => {
+                write!(f, "j128 {}", hex(bytes))
+            }
             Request::TSet(table) => write!(f, "{}", write_table(table)),
             Request::Choose(client, ucid) => {
                 write!(f, "{} {}", write_client(*client), or_dash(*ucid))

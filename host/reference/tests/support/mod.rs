@@ -4,6 +4,7 @@
 #![allow(dead_code)]
 
 use reference::collecting::{take_piece, Record, Taken, BUFFER_MIN};
+use reference::receiving::{receive_body, Received};
 use reference::table::{read_table, Table};
 use reference::Refusal;
 
@@ -62,8 +63,13 @@ pub fn refused(message: &[u8]) -> (u8, usize) {
     (refusal.number, refusal.offset)
 }
 
+/// A body.
+pub fn body(count: u8, number: u8, sequence: u8, piece: &[u8]) -> Vec<u8> {
+    [&[count, number, sequence], piece].concat()
+}
+
 /// A collection with buffers of the least size.
-#[derive(Clone)]
+#[derive(Clone, Debug, PartialEq, Eq)]
 pub struct Collection {
     pub record: Record,
     pub slots: Vec<u8>,
@@ -88,6 +94,11 @@ impl Collection {
             Taken::CompleteBody(message) => Answer::CompleteBody(message.to_vec()),
             Taken::CompleteJoin(message) => Answer::CompleteJoin(message.to_vec()),
         })
+    }
+
+    /// Receives a body all the way.
+    pub fn receive(&mut self, body: &[u8]) -> Result<Received, Refusal> {
+        receive_body(&mut self.record, &mut self.slots, &mut self.join, body)
     }
 }
 
