@@ -110,7 +110,7 @@ enum dsg_client_kind {
     DSG_CLIENT_APPLICATION = 4
 };
 
-/* A client ID. */
+/* A client ID. A rule fits a client where it lists one of that kind and that value, whatever the numbers are. */
 struct dsg_client {
     uint8_t kind;
     uint64_t value;
@@ -125,11 +125,12 @@ struct dsg_rule {
     uint8_t numbercount;
     uint8_t ucids[16];
     uint16_t numbers[8]; /* the numbers of its classifiers */
-    uint64_t tunnel;     /* the tunnel address: six bytes as one big-endian number */
+    uint64_t tunnel;     /* the tunnel address: six bytes as one big-endian number; no frame has one of 2^48 or more */
     struct dsg_client clients[8];
 };
 
-/* A classifier. A part whose mark is 0 is absent. Addresses are big-endian numbers: 0x0A000001 is 10.0.0.1. */
+/* A classifier. A part whose mark is 0 is absent, and its value means nothing; in a table that was read a mark is 0 or 1, and an
+ * absent part is 0. Addresses are big-endian numbers: 0x0A000001 is 10.0.0.1. */
 struct dsg_classifier {
     uint32_t destination;
     uint32_t source;
@@ -171,7 +172,8 @@ struct dsg_collection {
     uint16_t lengths[16];
 };
 
-/* What dsg_prepare gives. A host may copy and keep it; what its fields mean is the library's. */
+/* What dsg_prepare gives. A host may copy and keep it; what its fields mean is the library's. Places behind the count are not
+ * looked at. */
 struct dsg_tunnel {
     uint64_t address;
     uint8_t mode; /* 0: no rule fits; 1: the rule names no classifier; else by the entries */
@@ -185,7 +187,7 @@ struct dsg_tunnel {
     uint8_t ports[32];
 };
 
-/* The states of a modem. Any other number breaks a record, which then counts as Idle. */
+/* The states of a modem. */
 enum dsg_state {
     DSG_IDLE = 0,
     DSG_SCANNING = 1,
@@ -196,7 +198,11 @@ enum dsg_state {
     DSG_RESTING = 6
 };
 
-/* The modem. Times in milliseconds, timer values in seconds; a timer or the UCID counts where its mark is 1. */
+/* The modem. Times in milliseconds, timer values in seconds. A mark (receiveon, retryon, hasucid) is 1 where the timer runs or the
+ * UCID is known, else 0; a value beside a mark of 0 means nothing. A record counts as Idle, and only DSG_START changes it,
+ * where the state, a mark or the permission is outside its values; the receive timer is off in Checking, Resting or a
+ * forwarding state, or on in Scanning; the retry timer is on outside OneWay or without permission; there is a UCID outside
+ * TwoWay, or none in it; Ranging or TwoWay is without permission; tdsg1 or tdsg2 is 0; a timer is over 65,535,000. */
 struct dsg_modem {
     uint32_t last; /* the last clock */
     uint32_t receive;
@@ -242,6 +248,8 @@ struct dsg_collected {
  * Written: the record; of the slots, the bytes of the piece; of the join buffer, the bytes of a message that came in
  *   more pieces than one, at its start. Pass the same record and the same buffers, untouched, each time; empty the record
  *   (dsg_empty_collection) on every entry of the modem into Scanning.
+ * A message is complete once, at its last missing piece; a further copy of a piece is a repeat. In the join buffer it stays
+ *   until another message of more pieces than one is complete.
  * Refused (kind 0): all that was lent holds what it held.
  * Definition: collector/specs/Step collectStep; dsg_pieces/specs/Bodies collectedOf. */
 struct dsg_collected *dsg_collect(struct dsg_collected *answer, struct dsg_collection *held, uint8_t *slots,
@@ -335,7 +343,7 @@ enum dsg_event_kind {
     DSG_START = 1, /* (a: 1 may transmit, 0 may not) */
     DSG_LOCKED = 2,
     DSG_SCAN_EMPTY = 3,
-    DSG_TABLE_ACCEPTED = 4, /* (a, b, c, d: Tdsg1 to Tdsg4 of the table) */
+    DSG_TABLE_ACCEPTED = 4, /* (a, b, c, d: Tdsg1 to Tdsg4 of the table; a Tdsg1 or Tdsg2 of 0 counts as its default) */
     DSG_PACKET = 5,
     DSG_TICK = 6, /* the only event at which a timer acts */
     DSG_ENABLE = 7,
@@ -346,7 +354,8 @@ enum dsg_event_kind {
     DSG_DOWNSTREAM_LOST = 12
 };
 
-/* One event at a clock in milliseconds, which runs over its top. Returns 0, or 18 where the clock went back.
+/* One event at a clock in milliseconds, which runs over its top. Returns 0, or 18 where the clock went back: 2^31 or more after
+ * the last one, modulo 2^32 (never for DSG_START, nor in Idle).
  * Lent: the modem. Written: the modem. Refused (18): the modem holds what it held.
  * Definition: modem_step/specs/Numbers numberedStep; dsg_events/specs/Events eventStepped. */
 uint32_t dsg_event(struct dsg_modem *modem, uint32_t clock, uint8_t event, uint16_t a, uint16_t b, uint16_t c,
@@ -365,7 +374,8 @@ struct dsg_listed {
 };
 
 /* The text of a table that came under a change count: the lines that dcdlist writes.
- * Lent: the table, a buffer of DSG_LISTING_BYTES or more. Written: the text, at the buffer's start; no byte behind it.
+ * Lent: the table, a buffer of DSG_LISTING_BYTES or more. Written: the text, at the buffer's start, and no byte behind it: it
+ *   does not end with a 0 byte.
  * Refused (number not 0): the buffer holds what it held.
  * Definition: notices/specs/Listing listing, listing/specs/Text tableText; dsg_tables/specs/Tables listAfter. */
 struct dsg_listed dsg_list_table(const struct dsg_table *table, uint8_t count, uint8_t *out, size_t out_length);

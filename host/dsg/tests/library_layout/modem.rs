@@ -60,7 +60,12 @@ fn writes_every_place() {
             tdsg4: 1_800,
             state: state::SCANNING,
             permission: 1,
-            ..Modem::default()
+            receive: 0,
+            retry: 0,
+            receiveon: 0,
+            retryon: 0,
+            hasucid: 0,
+            ucid: 0,
         };
         let started = step(0, START, [1, 0, 0, 0], started);
         let checking = Modem {
