@@ -11,6 +11,7 @@ ghost use lib.ListN.{length, getD, take};
 ghost use Rattle.children.specs.Rows.{rowIn, placesOf};
 ghost use Rattle.table.specs.Table.{limitedTo, rulesOf};
 ghost use Rattle.named.specs.Named.{classifierNumbers, loneOf, namedPlace, loneNumber};
+ghost use Rattle.named.specs.Sought.{sought};
 
 // Whether every classifier number that the rules name is carried by a classifier.
 pub enum Lone {
@@ -108,7 +109,7 @@ fn gather(table: Table, carried: &mut [u16; 32])
 
 // Test 15 of the table that a message's elements leave.
 pub fn lone_number(message: &[u8], table: Table) -> Lone
-    ensures { λ r. ⌜ r ≡ loneNumber (now (message .entry)) table ⌝ }
+    ensures { λ r. ⌜ sought r ≡ sought (loneNumber (now (message .entry)) table) ⌝ }
 {
     let mut carried = [0u16; 32];
     gather(table, &mut carried);
