@@ -22,6 +22,7 @@ use Rattle.order.proofs.is_better.Reads as is_better
 use Rattle.choice.proofs.rule_at.Reads as choice_rule_at
 use Rattle.choice.proofs.choose_rule.Reads as choose_rule
 use Rattle.tunnel.proofs.judge_frame.Reads as judge_frame
+use Rattle.payloads.specs.Payload.{Part}
 use Rattle.payloads.proofs.payload_range.Reads as payload_range
 use Rattle.payloads.proofs.payload.Reads as payload
 use Rattle.preparing.proofs.prepare_tunnel.Reads as prepare_tunnel
@@ -80,7 +81,7 @@ judge_frame-one κs = only (frames.judge_frame-gives κs)
 pub payload_range-one : (κs : Lfts 0) → One answer (payload_range.Post κs)
 payload_range-one κs = only (frames.payload_range-gives κs)
 
-pub payload-one : (κs : Lfts 1) → One (λ x s. now x) (payload.Post κs)
+pub payload-one : (κs : Lfts 1) → One {L = Part} (λ x s. record { at = x .ptr; bytes = now x }) (payload.Post κs)
 payload-one κs = only (frames.payload-gives κs)
 
 -- ---- preparing, prepared, tunnel_parts

@@ -5,7 +5,7 @@ use mathlib.Core.Path.{ap}
 use lib.ListN.{length}
 use denote.Ref.{now}
 use Rattle.payloads.specs.declared.Range.{Range}
-use Rattle.payloads.specs.Payload.{bytesOver}
+use Rattle.payloads.specs.Payload.{partOver}
 use Rattle.payloads.proofs.Lent.{LiesIn, payloadRange-lies}
 use Rattle.payloads.proofs.payload.Statement.{statement}
 use Rattle.payloads.proofs.payload.Tie as tie
@@ -14,7 +14,9 @@ lies : (c : tie.After-payload-range) → LiesIn (c .payload-range .result) (leng
 lies c = rw (c .payload-range .ensures) (payloadRange-lies (c .before .before .args .verdict) _)
 
 returns : tie.Need-returns
-returns c = ap (λ (r : Range). bytesOver r (now (c .before .before .before .args .frame))) (c .before .payload-range .ensures)
+returns c =
+    let frame = c .before .before .before .args .frame in
+    ap (λ (r : Range). partOver r (frame .ptr) (now frame)) (c .before .payload-range .ensures)
 
 pub payload-spec : {M : Type 1} → statement M
 payload-spec = tie.close (tie.spec (λ c κs. search needs) (λ c. lies c .0) (λ c. lies c .0) (λ c. lies c .1) returns)
