@@ -35,7 +35,7 @@ use Rattle.modem_asked.specs.Asked as asked
 use Rattle.modem_record.specs.Record.{emptyModem}
 use Rattle.modem_step.specs.Step.{steppedModem}
 use Rattle.modem_step.specs.Numbers.{asNumbers, numberedStep}
-use Rattle.modem_step.proofs.Laws.{asNumbers-only}
+use Rattle.modem_step.proofs.Told.{asNumbers-only}
 use Rattle.modem.proofs.step_modem.Reads as step_modem
 use Rattle.modem.proofs.step_modem.Statement as step_modem′
 use Rattle.modem.proofs.step_modem.Met as step_modem″

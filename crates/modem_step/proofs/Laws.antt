@@ -3,10 +3,10 @@
 --   steppedModem-start, -acts, -ignored, -back, -taken   one for each answer, in the order of the tests
 --   isStart-numbers    which numbers name a Start
 --   numberedStep-taken, -back, -ignored   one for each way through the gate
---   answerOf-back      the answer of an answer's number;  asNumbers-only   two steps of the same numbers are the same
+--   answerOf-back      the answer of an answer's number
 -- Trusts: nothing.
 use Prim.Native.Nat.{ℕ}
-use mathlib.Core.Path.{_≡_, refl, sym, ap, _∙_}
+use mathlib.Core.Path.{_≡_, refl, _∙_}
 use mathlib.Core.Bool.{Bool, true, false, cond, not, _&&_}
 use lib.Dec.{ltb, eqb}
 use native.Mathlib.Omega.{arith}
@@ -14,14 +14,13 @@ use Rattle.modem_record.specs.declared.Modem.{Modem}
 use Rattle.modem_rows.specs.declared.Event.{Event}
 use Rattle.modem_rows.specs.declared.Event.the-variants.{Start}
 use Rattle.modem_step.specs.declared.Numbered.{Numbered}
-use Rattle.modem_step.specs.declared.Stepped.{Stepped}
 use Rattle.modem_step.specs.declared.Answer.{Answer}
 use Rattle.modem_step.specs.declared.Answer.the-variants.{Done, ClockBack}
 use Rattle.modem_record.specs.Record.{countsIdle}
 use Rattle.modem_rows.specs.Events.{startRow, eventOn}
 use Rattle.modem_step.specs.Step.{isBack, aged, isStart, answerNumber, answerOf, steppedModem}
 use Rattle.modem_rows.specs.Numbers.{startOf, eventOf}
-use Rattle.modem_step.specs.Numbers.{gateOf, asNumbers, numberedStep}
+use Rattle.modem_step.specs.Numbers.{gateOf, numberedStep}
 
 pub and-left : (a b : Bool) → a && b ≡ true → a ≡ true
 and-left true b h = refl
@@ -118,13 +117,3 @@ module _ (m : Modem) (now kind a b c d : ℕ) where
 pub answerOf-back : (answer : Answer) → answerOf (answerNumber answer) ≡ answer
 answerOf-back Done = refl
 answerOf-back ClockBack = refl
-
-stepOf : Numbered → Stepped
-stepOf n = record { answer = answerOf (n .answer); modem = n .modem }
-
-stepOf-back : (s : Stepped) → stepOf (asNumbers s) ≡ s
-unfolding stepOf
-stepOf-back s = rw (answerOf-back (s .answer))
-
-pub asNumbers-only : (r s : Stepped) → asNumbers r ≡ asNumbers s → r ≡ s
-asNumbers-only r s e = sym (stepOf-back r) ∙ ap stepOf e ∙ stepOf-back s
