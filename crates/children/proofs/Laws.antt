@@ -15,10 +15,12 @@ use types.Run.{OneOf}
 use denote.Enum.Declared.{tagOf}
 use lib.ListN.{length}
 use Rattle.elements.specs.Elements.{headAt, lengthByte}
+use Rattle.elements.specs.Stood.{stood}
 use Rattle.elements.specs.declared.Head.{Head}
 use Rattle.elements.specs.declared.Head.the-variants.{End, Refused, Value}
 use Rattle.elements.proofs.Head.{the-type}
 use Rattle.elements.proofs.Laws.{headAt-end, headAt-fits}
+use Rattle.elements.proofs.Stood.{stood-only}
 use Rattle.children.specs.Rows.{Row, done, bad, item, rowWith, rowFrom, rowIn, rowOfHead, rowInside}
 
 -- where a `let` asks for a value and another head stands, no value does
@@ -54,20 +56,20 @@ module _ (msg : List ℕ) (at end : ℕ) where
       go (suc n) e =
           rowWith-same (λ next. rowFrom n msg next end) (λ next. rowIn msg next end) msg at end (λ next l m. enough n (end - next) msg next end (omega arith) (omega arith))
 
-  pub rowIn-item : {h : Head} {len : ℕ} → h ≡ headAt msg at end → h ≡ Value len → rowIn msg at end ≡ item at len (rowIn msg (at + 2 + len) end)
-  rowIn-item e v = rowIn-rule ∙ simp (← e, v)
+  pub rowIn-item : {h : Head} {len : ℕ} → stood h ≡ stood (headAt msg at end) → h ≡ Value len → rowIn msg at end ≡ item at len (rowIn msg (at + 2 + len) end)
+  rowIn-item e v = rowIn-rule ∙ simp (← stood-only _ _ e, v)
 
-  pub item-fits : {h : Head} {len : ℕ} → h ≡ headAt msg at end → h ≡ Value len → (at + 2 + len ≤ end) × (at + 2 + len ≤ length msg) × (len ≡ lengthByte msg at)
-  item-fits e v = headAt-fits msg at end (sym e ∙ v)
+  pub item-fits : {h : Head} {len : ℕ} → stood h ≡ stood (headAt msg at end) → h ≡ Value len → (at + 2 + len ≤ end) × (at + 2 + len ≤ length msg) × (len ≡ lengthByte msg at)
+  item-fits e v = headAt-fits msg at end (sym (stood-only _ _ e) ∙ v)
 
   -- what is left of a row falls
-  pub item-less : {h : Head} {len : ℕ} → h ≡ headAt msg at end → h ≡ Value len → end - (at + 2 + len) < end - at
+  pub item-less : {h : Head} {len : ℕ} → stood h ≡ stood (headAt msg at end) → h ≡ Value len → end - (at + 2 + len) < end - at
   item-less e v = let fits = item-fits e v in omega arith
 
 -- no element stands there: the row is done, or its head is bad
-pub rowIn-stop : (P : Row → Type 0) (msg : List ℕ) (at end : ℕ) {h : Head} → h ≡ headAt msg at end → ((len : ℕ) → h ≡ Value len → ⊥)
+pub rowIn-stop : (P : Row → Type 0) (msg : List ℕ) (at end : ℕ) {h : Head} → stood h ≡ stood (headAt msg at end) → ((len : ℕ) → h ≡ Value len → ⊥)
     → P done → ((n : ℕ) → P (bad at n)) → P (rowIn msg at end)
-rowIn-stop P msg at end {h} e never d b = rw (rowIn-rule msg at end, ← e) (on h never)
+rowIn-stop P msg at end {h} e never d b = rw (rowIn-rule msg at end, ← stood-only _ _ e) (on h never)
   where
     on : (k : Head) → ((len : ℕ) → k ≡ Value len → ⊥) → P (rowWith (λ next. rowIn msg next end) at k)
     on End never = d
@@ -76,15 +78,15 @@ rowIn-stop P msg at end {h} e never d b = rw (rowIn-rule msg at end, ← e) (on 
 
 -- the row in an element's value
 module _ (msg : List ℕ) (at : ℕ) where
-  pub rowInside-done : {h : Head} → h ≡ headAt msg at (length msg) → ((len : ℕ) → h ≡ Value len → ⊥) → rowInside msg at ≡ done
+  pub rowInside-done : {h : Head} → stood h ≡ stood (headAt msg at (length msg)) → ((len : ℕ) → h ≡ Value len → ⊥) → rowInside msg at ≡ done
   unfolding rowInside
-  rowInside-done {h} e never = rw (← e) (on h never)
+  rowInside-done {h} e never = rw (← stood-only _ _ e) (on h never)
     where
       on : (k : Head) → ((len : ℕ) → k ≡ Value len → ⊥) → rowOfHead msg at k ≡ done
       on End never = refl
       on (Refused n) never = refl
       on (Value len) never = absurd (never len refl)
 
-  pub rowInside-row : {h : Head} {len : ℕ} → h ≡ headAt msg at (length msg) → h ≡ Value len → rowInside msg at ≡ rowIn msg (at + 2) (at + 2 + len)
+  pub rowInside-row : {h : Head} {len : ℕ} → stood h ≡ stood (headAt msg at (length msg)) → h ≡ Value len → rowInside msg at ≡ rowIn msg (at + 2) (at + 2 + len)
   unfolding rowInside
-  rowInside-row e v = simp (← e, v)
+  rowInside-row e v = simp (← stood-only _ _ e, v)

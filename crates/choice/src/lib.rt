@@ -15,6 +15,7 @@ ghost use mathlib.Core.Bool.{false, _&&_, _||_};
 ghost use lib.Dec.{eqb};
 ghost use Rattle.order.specs.Best.{isBetter, bestAfter};
 ghost use Rattle.choice.specs.Choose.{isClient, listsClient, listsUcid, admitsUcid, fitsClient, choiceOf, ruleAt};
+ghost use Rattle.choice.specs.Chose.{chose};
 
 // What is known of the upstream channel.
 pub enum Ucid {
@@ -158,7 +159,7 @@ fn take_rule(best: Best, at: usize, rule: Rule, client: Client, ucid: Ucid) -> B
 // The rule for a client: the greatest priority, among equals the smallest number, then the first. A rule is
 // read anew where it may win, so that the others cost no more than their clients' values.
 pub fn choose_rule(table: Table, client: Client, ucid: Ucid) -> Choice
-    ensures { λ r. ⌜ r ≡ choiceOf table client ucid ⌝ }
+    ensures { λ r. ⌜ chose r ≡ chose (choiceOf table client ucid) ⌝ }
 {
     let n = limited(table.rulecount, 32);
     let mut best = Best {

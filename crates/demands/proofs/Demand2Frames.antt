@@ -3,6 +3,7 @@
 -- Trusts: nothing.
 use mathlib.Core.Path.{_≡_, refl}
 use contract.Lifetimes.{Lfts}
+use lib.ListN.{length}
 use denote.Ref.{now}
 use denote.Triple.Entry.{Args, Res}
 use denote.Triple.Clauses.{AtExit}
@@ -11,28 +12,30 @@ use Rattle.order.specs.Best.{isBetter}
 use Rattle.choice.specs.Choose.{choiceOf, ruleAt}
 use Rattle.order.proofs.is_better.Reads as is_better
 use Rattle.choice.proofs.rule_at.Reads as choice_rule_at
+use Rattle.choice.proofs.Chose.{chose-only}
 use Rattle.choice.proofs.choose_rule.Reads as choose_rule
 use Rattle.choice.proofs.choose_rule.Statement as choose_rule′
 use Rattle.choice.proofs.choose_rule.Met as choose_rule″
 use Rattle.tunnel.specs.Judge.{verdictOf}
-use Rattle.payloads.specs.Payload.{payloadOf}
+use Rattle.payloads.specs.Payload.{payloadRange, Part, partOver}
 use Rattle.tunnel_parts.specs.Prepared.{lentTunnel, preparedVerdict}
 use Rattle.preparing.specs.Preparing.{preparedTunnel}
 use Rattle.tunnel.proofs.judge_frame.Reads as judge_frame
 use Rattle.tunnel.proofs.judge_frame.Statement as judge_frame′
 use Rattle.tunnel.proofs.judge_frame.Met as judge_frame″
+use Rattle.payloads.proofs.Judged.{judged-only}
+use Rattle.payloads.proofs.payload_range.Reads as payload_range
 use Rattle.payloads.proofs.payload.Reads as payload
 use Rattle.preparing.proofs.prepare_tunnel.Reads as prepare_tunnel
 use Rattle.prepared.proofs.judge_prepared.Reads as judge_prepared
 use Rattle.tunnel_parts.proofs.judge_lent.Reads as judge_lent
-use Rattle.modem_record.specs.declared.Modem.{Modem}
-use Rattle.modem_step.specs.declared.Answer.{Answer}
 use Rattle.modem_step.specs.declared.Stepped.{Stepped}
 use Rattle.modem_record.specs.Record as kept
 use Rattle.modem_asked.specs.Asked as asked
 use Rattle.modem_record.specs.Record.{emptyModem}
 use Rattle.modem_step.specs.Step.{steppedModem}
-use Rattle.modem_step.specs.Numbers.{numberedStep}
+use Rattle.modem_step.specs.Numbers.{asNumbers, numberedStep}
+use Rattle.modem_step.proofs.Told.{asNumbers-only}
 use Rattle.modem.proofs.step_modem.Reads as step_modem
 use Rattle.modem.proofs.step_modem.Statement as step_modem′
 use Rattle.modem.proofs.step_modem.Met as step_modem″
@@ -54,7 +57,7 @@ pub choose_rule-met : {M : Type 1} → choose_rule′.statement M
 choose_rule-met = choose_rule″.met
 
 pub choose_rule-gives : (κs : Lfts 0) → Gives answer (choose_rule.Post κs) (λ a. choiceOf (a .0) (a .1 .0) (a .1 .1 .0))
-choose_rule-gives κs a x s h = h
+choose_rule-gives κs a x s h = chose-only _ _ h
 
 pub choice_rule_at-gives : (κs : Lfts 0) → Gives answer (choice_rule_at.Post κs) (λ a. ruleAt (a .0) (a .1 .0))
 choice_rule_at-gives κs a x s h = h
@@ -68,23 +71,27 @@ pub judge_frame-met : {M : Type 1} → judge_frame′.statement M
 judge_frame-met = judge_frame″.met
 
 pub judge_frame-gives : (κs : Lfts 1) → Gives answer (judge_frame.Post κs) (λ a. verdictOf (a .0) (a .1 .0) (a .1 .1 .0) (now (a .1 .1 .1 .0)))
-judge_frame-gives κs a x s h = h
+judge_frame-gives κs a x s h = judged-only _ _ h
 
-pub payload-gives : (κs : Lfts 1) → Gives (λ x s. now x) (payload.Post κs) (λ a. payloadOf (a .0) (now (a .1 .0)))
+pub payload_range-gives : (κs : Lfts 0) → Gives answer (payload_range.Post κs) (λ a. payloadRange (a .0) (a .1 .0))
+payload_range-gives κs a x s h = h
+
+pub payload-gives : (κs : Lfts 1) → Gives {L = Part} (λ x s. record { at = x .ptr; bytes = now x }) (payload.Post κs)
+    (λ a. partOver (payloadRange (a .0) (length (now (a .1 .0)))) (a .1 .0 .ptr) (now (a .1 .0)))
 payload-gives κs a x s h = h
 
 pub prepare_tunnel-gives : (κs : Lfts 0) → Gives answer (prepare_tunnel.Post κs) (λ a. preparedTunnel (a .0) (a .1 .0) (a .1 .1 .0))
 prepare_tunnel-gives κs a x s h = h
 
 pub judge_prepared-gives : (κs : Lfts 1) → Gives answer (judge_prepared.Post κs) (λ a. preparedVerdict (a .0) (now (a .1 .0)))
-judge_prepared-gives κs a x s h = h
+judge_prepared-gives κs a x s h = judged-only _ _ h
 
 -- the tunnel in its parts: mode, address, count and seven arrays; and behind them the frame
 pub judge_lent-gives : (κs : Lfts 2) → Gives answer (judge_lent.Post κs)
     (λ a. let arrays = a .1 .1 .1 in let more = arrays .1 .1 .1 .1 in let frame = now (more .1 .1 .1 .0) in
     preparedVerdict (lentTunnel (a .0) (a .1 .0) (a .1 .1 .0)
     (now (arrays .0)) (now (arrays .1 .0)) (now (arrays .1 .1 .0)) (now (arrays .1 .1 .1 .0)) (now (more .0)) (now (more .1 .0)) (now (more .1 .1 .0))) frame)
-judge_lent-gives κs a x s h = h
+judge_lent-gives κs a x s h = judged-only _ _ h
 
 -- ---- stepping the modem
 
@@ -92,7 +99,7 @@ pub step_modem-met : {M : Type 1} → step_modem′.statement M
 step_modem-met = step_modem″.met
 
 pub step_modem-gives : (κs : Lfts 0) → Gives answer (step_modem.Post κs) (λ a. steppedModem (a .0) (a .1 .0) (a .1 .1 .0))
-step_modem-gives κs a x s h = h
+step_modem-gives κs a x s h = asNumbers-only _ _ h
 
 pub step_numbered-gives : (κs : Lfts 0) → Gives answer (step_numbered.Post κs)
     (λ a. numberedStep (a .0) (a .1 .0) (a .1 .1 .0) (a .1 .1 .1 .0) (a .1 .1 .1 .1 .0) (a .1 .1 .1 .1 .1 .0) (a .1 .1 .1 .1 .1 .1 .0))
@@ -116,7 +123,7 @@ act-gives κs a x s h = h
 
 -- the same on a record that is lent: walked by hand
 abbrev pub OnEvent : (κs : Lfts 1) → Args on_event.signature κs → Res on_event.signature κs → AtExit on_event.ended κs → Type 0
-OnEvent κs a x s = (now (s .0) ≡ steppedModem (now (a .0)) (a .1 .0) (a .1 .1 .0) .modem) × (x ≡ steppedModem (now (a .0)) (a .1 .0) (a .1 .1 .0) .answer)
+OnEvent κs a x s = asNumbers (record { answer = x; modem = now (s .0) }) ≡ asNumbers (steppedModem (now (a .0)) (a .1 .0) (a .1 .1 .0))
 
 pub on_event-met : {M : Type 1} → on_event′.statement M
 on_event-met = on_event″.met
@@ -124,9 +131,6 @@ on_event-met = on_event″.met
 pub on_event-says : Says on_event.ended (λ M 𝓤 H. on_event.clauses 𝓤 H) OnEvent
 on_event-says M 𝓤 H A mem run κs a g x s = refl
 
-stepped : (a b : Answer) (m n : Modem) → a ≡ b → m ≡ n → _≡_ {A = Stepped} (record { answer = a; modem = m }) (record { answer = b; modem = n })
-stepped a b m n e f = rw (e, f) refl
-
 pub on_event-gives : (κs : Lfts 1) → Gives {L = Stepped} (λ x s. record { answer = x; modem = now (s .0) }) (OnEvent κs)
     (λ a. steppedModem (now (a .0)) (a .1 .0) (a .1 .1 .0))
-on_event-gives κs a x s h = stepped _ _ _ _ (h .1) (h .0)
+on_event-gives κs a x s h = asNumbers-only _ _ h

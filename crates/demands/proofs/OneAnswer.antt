@@ -1,8 +1,8 @@
 -- OneAnswer: the contract of every public function admits one answer only: two results that meet it on the same arguments show the
 -- same answer, and leave the same in everything that was lent to be written. Here: the entries that demand 2 names.
 --
--- One law, `only` of proofs/Contract.antt, and a line for each function. Of a result that is a lent part its contents are meant, and of an
--- answer of the collector what it says: `said-only` of crate collector_demands, proofs/Controls.antt, is that this is the answer.
+-- One law, `only` of proofs/Contract.antt, and a line for each function. Of a result that is a lent part its contents are meant (of the
+-- payload also where it stands), and of an answer of the collector what it says: `said-only` of crate collector_demands, proofs/Controls.antt, is that this is the answer.
 -- The functions of the lower crates are in OneAnswerParts and OneAnswerPieces, those that a C host calls in OneAnswerC. Not here: `main` of
 -- dcdlist, whose contract can say nothing of what is read or written (docs/CONTRACTS.md).
 -- Trusts: nothing.
@@ -22,6 +22,8 @@ use Rattle.order.proofs.is_better.Reads as is_better
 use Rattle.choice.proofs.rule_at.Reads as choice_rule_at
 use Rattle.choice.proofs.choose_rule.Reads as choose_rule
 use Rattle.tunnel.proofs.judge_frame.Reads as judge_frame
+use Rattle.payloads.specs.Payload.{Part}
+use Rattle.payloads.proofs.payload_range.Reads as payload_range
 use Rattle.payloads.proofs.payload.Reads as payload
 use Rattle.preparing.proofs.prepare_tunnel.Reads as prepare_tunnel
 use Rattle.prepared.proofs.judge_prepared.Reads as judge_prepared
@@ -76,7 +78,10 @@ choice_rule_at-one κs = only (frames.choice_rule_at-gives κs)
 pub judge_frame-one : (κs : Lfts 1) → One answer (judge_frame.Post κs)
 judge_frame-one κs = only (frames.judge_frame-gives κs)
 
-pub payload-one : (κs : Lfts 1) → One (λ x s. now x) (payload.Post κs)
+pub payload_range-one : (κs : Lfts 0) → One answer (payload_range.Post κs)
+payload_range-one κs = only (frames.payload_range-gives κs)
+
+pub payload-one : (κs : Lfts 1) → One {L = Part} (λ x s. record { at = x .ptr; bytes = now x }) (payload.Post κs)
 payload-one κs = only (frames.payload-gives κs)
 
 -- ---- preparing, prepared, tunnel_parts

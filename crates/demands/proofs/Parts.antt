@@ -24,9 +24,11 @@ use Rattle.table.proofs.empty_rule.Reads as empty_rule
 use Rattle.table.proofs.empty_classifier.Reads as empty_classifier
 use Rattle.table.proofs.empty_table.Reads as empty_table
 use Rattle.elements.specs.Elements.{headAt}
+use Rattle.elements.proofs.Stood.{stood-only}
 use Rattle.elements.proofs.read_head.Reads as read_head
 use Rattle.types.specs.Places.{typeUnder}
 use Rattle.musts.specs.Musts.{lacksMust}
+use Rattle.types.proofs.Columns.{columns-only}
 use Rattle.types.proofs.find_type.Reads as find_type
 use Rattle.musts.proofs.lacks_must.Reads as lacks_must
 use Rattle.element_tests.specs.Tests.{ownTests}
@@ -47,6 +49,7 @@ use Rattle.listed.specs.Listed.{isAmong, namesNumber}
 use Rattle.named.specs.Named.{loneNumber}
 use Rattle.listed.proofs.is_listed.Reads as is_listed
 use Rattle.listed.proofs.names_number.Reads as names_number
+use Rattle.named.proofs.Sought.{sought-only}
 use Rattle.named.proofs.lone_number.Reads as lone_number
 
 -- ---- numbers
@@ -93,7 +96,7 @@ empty_table-gives κs a x s h = h
 -- ---- types
 
 pub find_type-gives : (κs : Lfts 0) → Gives answer (find_type.Post κs) (λ a. typeUnder (a .0) (a .1 .0))
-find_type-gives κs a x s h = h
+find_type-gives κs a x s h = columns-only _ _ h
 
 -- ---- musts
 
@@ -103,7 +106,7 @@ lacks_must-gives κs a x s h = h
 -- ---- elements
 
 pub read_head-gives : (κs : Lfts 1) → Gives answer (read_head.Post κs) (λ a. headAt (now (a .0)) (a .1 .0) (a .1 .1 .0))
-read_head-gives κs a x s h = h
+read_head-gives κs a x s h = stood-only _ _ h
 
 -- ---- element_tests
 
@@ -143,4 +146,4 @@ names_number-gives κs a x s h = h
 -- ---- named
 
 pub lone_number-gives : (κs : Lfts 1) → Gives answer (lone_number.Post κs) (λ a. loneNumber (now (a .0)) (a .1 .0))
-lone_number-gives κs a x s h = h
+lone_number-gives κs a x s h = sought-only _ _ h

@@ -1,16 +1,17 @@
 -- Starred: the starred examples of document 01, "Bench examples": one list, in its order, under one theorem about the definitions.
 --
---   examples given   what the definitions give, each example asked as the document asks it; `given` is the table that the host has
---   expected         what the document says
---   starred          they are the same, whatever table is given
+--   examples given slots join   what the definitions give, each example asked as the document asks it; `given` is the table that the host
+--                               has, `slots` and `join` are the buffers that it lends
+--   expected                    what the document says
+--   starred                     they are the same, whatever table is given and whatever buffers of 24,000 bytes or more are lent
 --
--- The two bodies of the second example are answered by the runs of crate collector_demands, whose `cut-collected` says the same of the
--- collector and any lent buffers. That the code does what the definitions give is in Demand2 and Demand2Frames.
+-- The second example is what the collector answers to the two bodies and what message it lends, from a record with nothing collected:
+-- `cut-collected` of crate collector_demands. That the code does what the definitions give is in Demand2 and Demand2Frames.
 -- Trusts: nothing.
-use Prim.Native.Nat.{ℕ}
+use Prim.Native.Nat.{ℕ, _≤_}
 use mathlib.Core.Path.{_≡_, refl, ap}
 use mathlib.Core.List.{List, [], _∷_}
-use lib.ListN.{getD}
+use lib.ListN.{length, getD}
 use Rattle.table.specs.declared.Client.{Client}
 use Rattle.table.specs.declared.Table.{Table}
 use Rattle.table.specs.Table.{rulesOf, clientsOf, emptyTable}
@@ -23,9 +24,11 @@ use Rattle.choice.specs.declared.Choice.{Choice}
 use Rattle.choice.specs.declared.Choice.the-variants as choice
 use Rattle.order.specs.Best.{comesBefore, anyOf, firstPlace, isBest, bestPlace}
 use Rattle.choice.specs.Choose.{isClient, listsClient, admitsUcid, fitsClient, chosenPlace, choiceOf, ruleAt}
-use Rattle.collector.specs.Answers.{Said, waiting, complete}
-use Rattle.collector_demands.specs.Runs.{replyOf}
-use Rattle.collector_demands.proofs.Bench.{M, firstBody, secondBody, cut-example}
+use Rattle.collection.specs.Record.{emptyCollection}
+use Rattle.collector.specs.Answers.{waiting, complete}
+use Rattle.collector_demands.specs.Runs.{Reply, reply}
+use Rattle.collector_demands.specs.Demand.{Lent, replyTo}
+use Rattle.collector_demands.proofs.Bench.{M, firstBody, secondBody, cut-collected}
 use Rattle.modem_step.specs.Step.{clockStep}
 use Rattle.reader.proofs.Bench as reader
 use Rattle.reader.proofs.Bench.{tableM, withTdsg3}
@@ -35,8 +38,8 @@ pub data Outcome : Type 0 where
   -- a client gets the rule of this number; or refusal 17
   getsRule : ℕ → Outcome
   getsNone : Outcome
-  -- a body is answered
-  told : Said → Outcome
+  -- a body is answered, and a message lent
+  told : Reply → Outcome
   -- a message is a table, or is refused with this number at this offset
   accepted : Table → Outcome
   refusedAt : ℕ → ℕ → Outcome
@@ -58,11 +61,15 @@ read given msg = outcome (readTable given msg .verdict) (readTable given msg .ta
 abbrev application : Client
 application = record { kind = 4; value = 42 }
 
-abbrev pub examples : Table → List Outcome
-examples given =
+-- what is lent: nothing collected, and two buffers
+abbrev lent : List ℕ → List ℕ → Lent
+lent slots join = record { held = emptyCollection 0 0; slots = slots; join = join }
+
+abbrev pub examples : Table → List ℕ → List ℕ → List Outcome
+examples given slots join =
     chosen (readTable given M .table) (choiceOf (readTable given M .table) application Unknown)
-    ∷ told (replyOf [] secondBody .answer)
-    ∷ told (replyOf (secondBody ∷ []) firstBody .answer)
+    ∷ told (replyTo (lent slots join) [] secondBody)
+    ∷ told (replyTo (lent slots join) (secondBody ∷ []) firstBody)
     ∷ read given []
     ∷ read given (0x32 ∷ [])
     ∷ read given (0x32 ∷ 0xFF ∷ [])
@@ -79,8 +86,8 @@ expected =
     -- M: application 42 gets rule 5
     getsRule 5
     -- M cut after 10 bytes, second piece first: Waiting 1, Complete
-    ∷ told (waiting 1)
-    ∷ told (complete 52)
+    ∷ told (reply (waiting 1) [])
+    ∷ told (reply (complete 52) M)
     -- the empty message: accepted
     ∷ accepted emptyTable
     -- 32
@@ -134,14 +141,15 @@ gets-M : choiceOf tableM application Unknown ≡ choice.Chosen 0
 unfolding rulesOf clientsOf comesBefore anyOf firstPlace isBest bestPlace isClient listsClient admitsUcid fitsClient chosenPlace choiceOf
 gets-M = refl
 
-pub starred : (given : Table) → examples given ≡ expected
+pub starred : (given : Table) (slots join : List ℕ) → 24000 ≤ length slots → 24000 ≤ length join → examples given slots join ≡ expected
 unfolding rulesOf
-starred given =
+starred given slots join room space =
+    let cut = cut-collected slots join room space in
     rw (
       read-M given,
       gets-M,
-      cut-example .0,
-      cut-example .1,
+      cut .0,
+      cut .1,
       read-empty given,
       read-32 given,
       read-32-FF given,

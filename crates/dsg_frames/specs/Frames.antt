@@ -21,6 +21,7 @@ use Rattle.choice.specs.declared.Choice as rules
 use Rattle.choice.specs.Choose.{choiceOf, refusalOf, placeOf}
 use Rattle.payloads.specs.declared.Verdict as frames
 use Rattle.payloads.specs.declared.Verdict.the-variants.{Refused, Other, Forward, Filtered}
+use Rattle.payloads.specs.Payload.{payloadRange}
 use Rattle.tunnel.specs.Judge.{verdictOf}
 use Rattle.dsg_frames.specs.declared.Choice.{Choice}
 use Rattle.dsg_frames.specs.declared.Verdict.{Verdict}
@@ -37,11 +38,11 @@ choiceAs c = record { number = refusalOf c; place = placeOf c }
 abbrev pub choiceFor : Table → ℕ → ℕ → ℕ → ℕ → Choice
 choiceFor t kind value known ucid = choiceAs (choiceOf t (clientOf kind value) (ucidOf known ucid))
 
--- the payload is what stands behind the head of 14 bytes
+-- the payload is told by its range
 abbrev pub verdictAs : frames.Verdict → ℕ → Verdict
 verdictAs (Refused k) n = record { kind = 0; number = k; start = 0; length = 0 }
 verdictAs Other n = record { kind = 1; number = 0; start = 0; length = 0 }
-verdictAs (Forward k) n = record { kind = 2; number = k; start = 14; length = n - 14 }
+verdictAs (Forward k) n = let p = payloadRange (Forward k) n in record { kind = 2; number = k; start = p .start; length = p .end - p .start }
 verdictAs Filtered n = record { kind = 3; number = 0; start = 0; length = 0 }
 
 abbrev pub verdictFor : Table → ℕ → ℕ → ℕ → ℕ → List ℕ → Verdict

@@ -3,7 +3,6 @@
 // `choose_value`, `judge_value`, `prepare_value` and `judge_parts`. A client is a kind and a value; a UCID counts where its mark
 // is not 0. They take any table, any numbers and any frame. The payload is told by its place in the frame.
 ghost use mathlib.Core.Path.{_≡_};
-ghost use Prim.Native.Nat.{_-_};
 ghost use lib.ListN.{length};
 ghost use Rattle.tunnel_parts.specs.Prepared.{lentTunnel, preparedVerdict};
 ghost use Rattle.preparing.specs.Preparing.{preparedTunnel};
@@ -64,13 +63,6 @@ pub fn choose_value(table: Table, kind: u8, value: u64, known: u8, ucid: u8) -> 
     choice_from(chosen)
 }
 
-// The bytes of a frame behind its head of 14.
-fn behind_head(length: usize) -> usize
-    ensures { λ r. ⌜ r ≡ length - 14 ⌝ }
-{
-    if length < 14 { 0 } else { length - 14 }
-}
-
 // The numbers of a verdict on a frame of so many bytes.
 fn verdict_from(verdict: payloads::Verdict, length: usize) -> Verdict
     ensures { λ r. ⌜ r ≡ verdictAs verdict length ⌝ }
@@ -88,12 +80,15 @@ fn verdict_from(verdict: payloads::Verdict, length: usize) -> Verdict
             start: 0,
             length: 0,
         },
-        payloads::Verdict::Forward(n) => Verdict {
-            kind: 2,
-            number: n as u32,
-            start: 14,
-            length: behind_head(length),
-        },
+        payloads::Verdict::Forward(n) => {
+            let range = payloads::payload_range(verdict, length);
+            Verdict {
+                kind: 2,
+                number: n as u32,
+                start: range.start,
+                length: range.end - range.start,
+            }
+        }
         payloads::Verdict::Filtered => Verdict {
             kind: 3,
             number: 0,

@@ -5,6 +5,7 @@
 ghost use mathlib.Core.Path.{_≡_};
 ghost use Prim.Native.Nat.{min};
 ghost use Rattle.elements.specs.Elements.{headAt};
+ghost use Rattle.elements.specs.Stood.{stood};
 
 // What stands at a place of a row.
 pub enum Head {
@@ -32,7 +33,7 @@ fn lesser(a: usize, b: usize) -> usize
 
 // What stands at `at` in a row of the message that ends at `end`. The tests stand in the order of their numbers.
 pub fn read_head(message: &[u8], at: usize, end: usize) -> Head
-    ensures { λ r. ⌜ r ≡ headAt (now (message .entry)) at end ⌝ }
+    ensures { λ r. ⌜ stood r ≡ stood (headAt (now (message .entry)) at end) ⌝ }
 {
     let stop = lesser(end, message.len());
     if stop <= at {

@@ -7,6 +7,7 @@ ghost use mathlib.Core.Path.{_≡_};
 ghost use mathlib.Core.Bool.{cond};
 ghost use Rattle.modem_rows.specs.Numbers.{eventOf};
 ghost use Rattle.modem_step.specs.Step.{answerOf, steppedModem};
+ghost use Rattle.modem_step.specs.Numbers.{asNumbers};
 use modem_record::Modem;
 use modem_rows::Event;
 use modem_step::Answer;
@@ -96,7 +97,7 @@ fn answer_from(number: u8) -> Answer
 
 // One event.
 pub fn step_modem(modem: Modem, clock: u32, event: Event) -> Stepped
-    ensures { λ r. ⌜ r ≡ steppedModem modem clock event ⌝ }
+    ensures { λ r. ⌜ asNumbers r ≡ asNumbers (steppedModem modem clock event) ⌝ }
 {
     let n = numbers_of(event);
     let s = modem_step::step_numbered(modem, clock, n.kind, n.a, n.b, n.c, n.d);
@@ -110,8 +111,7 @@ pub fn step_modem(modem: Modem, clock: u32, event: Event) -> Stepped
 
 // One event on a record that the host lends.
 pub fn on_event(modem: &mut Modem, clock: u32, event: Event) -> Answer
-    ensures { λ r. ⌜ (now (modem .exit) ≡ steppedModem (now (modem .entry)) clock event .modem)
-        × (r ≡ steppedModem (now (modem .entry)) clock event .answer) ⌝ }
+    ensures { λ r. ⌜ asNumbers (record { answer = r; modem = now (modem .exit) }) ≡ asNumbers (steppedModem (now (modem .entry)) clock event) ⌝ }
 {
     let s = step_modem(*modem, clock, event);
     *modem = s.modem;

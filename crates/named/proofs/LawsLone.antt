@@ -2,23 +2,24 @@
 --
 --   lone-rule, lone-end                    the rules from the i-th on: the numbers of that rule, then the later rules; none left
 --   lone-answered, lone-number, lone-done  a rule's numbers from the j-th on: carried, not carried, none left
---   gathered-all                           all of the classifiers are passed
+--   carried-hit, carried-miss, carried-end   the classifiers from the k-th on: this one carries the number, another may, none is left
 --   placed-nothing, placed-number          where what is found stands
 -- Trusts: nothing.
 use Prim.Native.Nat.{ℕ, _+_, _≤_, _<_}
 use mathlib.Core.Path.{_≡_, sym, _∙_}
-use mathlib.Core.Bool.{Bool, true, false, cond}
+use mathlib.Core.Bool.{true, false, cond, _||_}
 use mathlib.Core.List.{List, map}
 use native.Mathlib.Omega.{arith}
-use lib.ListN.{length, take, drop, getD}
+use borrow.Author.Tests.{eq-eqb, ne-eqb}
+use lib.Dec.{eqb}
+use lib.ListN.{length, drop, getD}
 use Rattle.table.specs.Table.{limitedTo, rulesOf, classifiersOf, numbersOf}
 use Rattle.table.specs.declared.Rule.{Rule}
 use Rattle.table.specs.declared.Classifier.{Classifier}
 use Rattle.table.specs.declared.Table.{Table}
 use Rattle.table.proofs.Laws.{limitedTo-le}
-use Rattle.listed.specs.Listed.{isListed, isAmong}
-use Rattle.listed.proofs.Laws.{front-all, isAmong-front}
-use Rattle.named.specs.Named.{classifierNumbers, loneIn, loneOf, unanswered, namedPlace, loneNumber}
+use Rattle.listed.specs.Listed.{isListed}
+use Rattle.named.specs.Named.{loneIn, loneOf, unanswered, namedPlace, loneNumber}
 use Rattle.named.specs.declared.Found.{Found}
 use Rattle.named.specs.declared.Found.the-variants.{Nothing, Number}
 use Rattle.named.specs.declared.Lone.the-variants.{Answered, At}
@@ -51,31 +52,43 @@ module _ (carried : List ℕ) (i : ℕ) (q : Rule) (j : ℕ) (later : Found) {nu
   unfolding numbersOf
   lone-done h = rw (front-end (q .numbers) (limitedTo 8 (q .numbercount)) j (omega arith))
 
--- the j-th number, looked for among the first `count` of a list of 32
-module _ (count : ℕ) (l : List ℕ) (all : length l ≡ 32) (i : ℕ) (q : Rule) (j : ℕ) (later : Found) {numbers : ℕ} (n : numbers ≡ limitedTo 8 (q .numbercount))
-    (room : length (q .numbers) ≡ 8) (h : j < numbers) {answered : Bool} (e : answered ≡ isAmong (getD (q .numbers) j 0) (limitedTo 32 count) l) where
-  looked : answered ≡ isListed (getD (q .numbers) j 0) (take count l)
-  looked = e ∙ isAmong-front (getD (q .numbers) j 0) count l all
+  -- the j-th number, where a classifier carries it and where none does
+  module _ (room : length (q .numbers) ≡ 8) (h : j < numbers) where
+    pub lone-answered : isListed (getD (q .numbers) j 0) carried ≡ true
+        → loneIn carried i (j + 1) (drop (j + 1) (numbersOf q)) later ≡ loneIn carried i j (drop j (numbersOf q)) later
+    lone-answered y = sym (lone-step room h ∙ simp y)
 
-  pub lone-answered : answered ≡ true
-      → loneIn (take count l) i (j + 1) (drop (j + 1) (numbersOf q)) later ≡ loneIn (take count l) i j (drop j (numbersOf q)) later
-  lone-answered y = sym (lone-step (take count l) i q j later n room h ∙ simp (← looked, y))
+    pub lone-number : isListed (getD (q .numbers) j 0) carried ≡ false → Number i j ≡ loneIn carried i j (drop j (numbersOf q)) later
+    lone-number f = sym (lone-step room h ∙ simp f)
 
-  pub lone-number : answered ≡ false → Number i j ≡ loneIn (take count l) i j (drop j (numbersOf q)) later
-  lone-number f = sym (lone-step (take count l) i q j later n room h ∙ simp (← looked, f))
+-- the numbers of the classifiers from the k-th on
+abbrev pub carriedFrom : Table → ℕ → List ℕ
+carriedFrom t k = map (λ q. q .number) (drop k (classifiersOf t))
 
--- the numbers of the classifiers, gathered
-pub gathered-all : (t : Table) (carried : List ℕ) (k : ℕ) → length carried ≡ 32 → k ≡ limitedTo 32 (t .classifiercount)
-    → take k carried ≡ map (λ (q : Classifier). q .number) (take k (t .classifiers)) → take (t .classifiercount) carried ≡ classifierNumbers t
-unfolding classifiersOf
-gathered-all t carried k room e f = sym (front-all carried 32 (t .classifiercount) room) ∙ (rw e at f)
+module _ (t : Table) (number k : ℕ) {classifiers : ℕ} (n : classifiers ≡ limitedTo 32 (t .classifiercount)) where
+  module _ (d : Classifier) (room : length (t .classifiers) ≡ 32) (h : k < classifiers) where
+    carried-step : isListed number (carriedFrom t k) ≡ (eqb (getD (t .classifiers) k d .number) number || isListed number (carriedFrom t (k + 1)))
+    unfolding classifiersOf
+    carried-step =
+        let fits = limitedTo-le 32 (t .classifiercount) in
+        rw (front-next (t .classifiers) d (limitedTo 32 (t .classifiercount)) k (omega arith) (omega arith))
 
--- the search over what was gathered is the search over the table
-module _ (msg : List ℕ) (t : Table) {carried : List ℕ} (all : carried ≡ classifierNumbers t) {found : Found} (e : found ≡ loneOf carried 0 (rulesOf t)) where
+    pub carried-hit : getD (t .classifiers) k d .number ≡ number → isListed number (carriedFrom t k) ≡ true
+    carried-hit e = carried-step ∙ rw (eq-eqb _ _ e)
+
+    pub carried-miss : (getD (t .classifiers) k d .number ≡ number → ⊥) → isListed number (carriedFrom t (k + 1)) ≡ isListed number (carriedFrom t k)
+    carried-miss e = sym (carried-step ∙ rw (ne-eqb _ _ e))
+
+  pub carried-end : classifiers ≤ k → isListed number (carriedFrom t k) ≡ false
+  unfolding classifiersOf
+  carried-end h = rw (front-end (t .classifiers) (limitedTo 32 (t .classifiercount)) k (omega arith))
+
+-- where what is found stands
+module _ (msg : List ℕ) (t : Table) {found : Found} (e : found ≡ unanswered t) where
   pub placed-nothing : found ≡ Nothing → Answered ≡ loneNumber msg t
-  unfolding loneNumber unanswered
-  placed-nothing n = simp (← all, ← e, n)
+  unfolding loneNumber
+  placed-nothing n = simp (← e, n)
 
   pub placed-number : {i j : ℕ} → found ≡ Number i j → {place : ℕ} → place ≡ namedPlace msg i j → At place ≡ loneNumber msg t
-  unfolding loneNumber unanswered
-  placed-number n p = simp (← all, ← e, n, p)
+  unfolding loneNumber
+  placed-number n p = simp (← e, n, p)

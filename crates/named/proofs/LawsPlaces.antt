@@ -9,13 +9,14 @@ use mathlib.Core.List.{List}
 use borrow.Author.Tests.{eq-eqb, ne-eqb}
 use lib.ListN.{getD}
 use Rattle.elements.specs.Elements.{headAt}
+use Rattle.elements.specs.Stood.{stood}
 use Rattle.elements.specs.declared.Head.{Head}
 use Rattle.elements.specs.declared.Head.the-variants.{Value}
 use Rattle.children.specs.Rows.{Row, rowIn, typeAt, placesOf}
 use Rattle.children.proofs.Laws.{rowIn-stop, rowIn-item}
 use Rattle.named.proofs.Lists.{getD-later}
 
-module _ (msg : List ℕ) (kind at end n : ℕ) {h : Head} (e : h ≡ headAt msg at end) where
+module _ (msg : List ℕ) (kind at end n : ℕ) {h : Head} (e : stood h ≡ stood (headAt msg at end)) where
   pub places-stop : ((len : ℕ) → h ≡ Value len → ⊥) → 0 ≡ getD (placesOf msg kind (rowIn msg at end)) n 0
   places-stop never = rowIn-stop (λ row. 0 ≡ getD (placesOf msg kind row) n 0) msg at end e never refl (λ k. refl)
 

@@ -1,15 +1,15 @@
--- Lists of which the first n are used: what stands next on a walk over them, and what gathering one more of them does.
+-- Lists of which the first n are used: what stands next on a walk over them.
 --
 --   front-next   at place i of the first n      front-end   past the last of them
---   front-gathered   the number of one more is noted
+--   getD-later   the n-th but for the first     map-append  what a joined list is mapped to
 -- Trusts: nothing.
 use Prim.Native.Nat.{ℕ, zero, suc, _+_, _-_, _≤_, _<_}
 use mathlib.Core.Path.{_≡_, refl, sym, ap, _∙_}
 use mathlib.Core.List.{List, [], _∷_, _++_, map}
 use native.Mathlib.Omega.{arith}
 use native.Mathlib.Numerals.{add-one}
-use lib.ListN.{length, take, drop, getD, set, length-take, drop-of-length-le}
-use lib.Seq.{drop-cons, length-take-le, getD-take, take-suc, take-suc-set}
+use lib.ListN.{length, take, drop, getD, length-take, drop-of-length-le}
+use lib.Seq.{drop-cons, length-take-le, getD-take}
 
 module _ {A : Type 0} (l : List A) (d : A) (n i : ℕ) (h : i < n) (k : n ≤ length l) where
   pub front-next : drop i (take n l) ≡ getD l i d ∷ drop (i + 1) (take n l)
@@ -28,9 +28,3 @@ getD-later x xs (suc n) h = ap (λ (j : ℕ). getD xs j 0) (omega arith)
 pub map-append : {A B : Type 0} (f : A → B) (s t : List A) → map f (s ++ t) ≡ map f s ++ map f t
 map-append f [] t = refl
 map-append f (x ∷ s) t = ap (λ l. f x ∷ l) (map-append f s t)
-
--- a list of values, of which the numbers are noted one by one
-pub front-gathered : {A : Type 0} (f : A → ℕ) (l : List A) (d : A) (m : List ℕ) (n : ℕ) → n < length l → n < length m
-    → take n m ≡ map f (take n l) → take (n + 1) (set m n (f (getD l n d))) ≡ map f (take (n + 1) l)
-front-gathered f l d m n h k e =
-    rw (add-one n, take-suc-set m n (f (getD l n d)) k, take-suc l n d h, map-append f (take n l) (getD l n d ∷ []), e)

@@ -7,10 +7,11 @@ use table::Rule;
 use table::Table;
 ghost use mathlib.Core.Path.{_≡_};
 ghost use Prim.Native.Nat.{_≤_};
-ghost use lib.ListN.{length, getD, take};
+ghost use lib.ListN.{length, getD};
 ghost use Rattle.children.specs.Rows.{rowIn, placesOf};
-ghost use Rattle.table.specs.Table.{limitedTo, rulesOf};
-ghost use Rattle.named.specs.Named.{classifierNumbers, loneOf, namedPlace, loneNumber};
+ghost use Rattle.table.specs.Table.{limitedTo};
+ghost use Rattle.named.specs.Named.{unanswered, namedPlace, loneNumber};
+ghost use Rattle.named.specs.Sought.{sought};
 
 // Whether every classifier number that the rules name is carried by a classifier.
 pub enum Lone {
@@ -68,51 +69,43 @@ fn named_count(rule: Rule) -> usize
     table::limited(rule.numbercount, 8)
 }
 
-// The first number that a rule names and that is not among the carried ones, of which there are as many as classifiers.
-fn first_unanswered(table: Table, carried: &[u16; 32]) -> Found
-    requires { ⌜ length (now carried) ≡ 32 ⌝ }
-    ensures { λ r. ⌜ r ≡ loneOf (take (table .classifiercount) (now (carried .entry))) 0 (rulesOf table) ⌝ }
+// The first number that a rule names and that no classifier carries. At a classifier that carries a number the search goes on
+// with the next number, and at the first number without one it is left.
+fn first_unanswered(table: Table) -> Found
+    ensures { λ r. ⌜ r ≡ unanswered table ⌝ }
 {
     let mut found = Found::Nothing;
     let rules = table::limited(table.rulecount, 32);
+    let classifiers = table::limited(table.classifiercount, 32);
     let mut i = 0;
     'search: while i < rules {
         let rule = table.rules[i];
         let numbers = named_count(rule);
         let mut j = 0;
-        while j < numbers {
-            if !listed::is_listed(carried, table.classifiercount, rule.numbers[j]) {
-                found = Found::Number(i, j);
-                break 'search;
+        'number: while j < numbers {
+            let number = rule.numbers[j];
+            let mut k = 0;
+            while k < classifiers {
+                let classifier = table.classifiers[k];
+                if classifier.number == number {
+                    j += 1;
+                    continue 'number;
+                }
+                k += 1;
             }
-            j += 1;
+            found = Found::Number(i, j);
+            break 'search;
         }
         i += 1;
     }
     found
 }
 
-// The numbers of the classifiers, at the start of the list.
-fn gather(table: Table, carried: &mut [u16; 32])
-    requires { ⌜ length (now carried) ≡ 32 ⌝ }
-    ensures { λ r. ⌜ (take (table .classifiercount) (now (carried .exit)) ≡ classifierNumbers table) × (length (now (carried .exit)) ≡ 32) ⌝ }
-{
-    let count = table::limited(table.classifiercount, 32);
-    let mut k = 0;
-    while k < count {
-        let classifier = table.classifiers[k];
-        carried[k] = classifier.number;
-        k += 1;
-    }
-}
-
 // Test 15 of the table that a message's elements leave.
 pub fn lone_number(message: &[u8], table: Table) -> Lone
-    ensures { λ r. ⌜ r ≡ loneNumber (now (message .entry)) table ⌝ }
+    ensures { λ r. ⌜ sought r ≡ sought (loneNumber (now (message .entry)) table) ⌝ }
 {
-    let mut carried = [0u16; 32];
-    gather(table, &mut carried);
-    match first_unanswered(table, &carried) {
+    match first_unanswered(table) {
         Found::Nothing => Lone::Answered,
         Found::Number(i, j) => {
             let place = named_place(message, i, j);

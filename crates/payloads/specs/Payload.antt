@@ -1,24 +1,42 @@
 -- Payload: the part of a judged frame that is lent back (document 01, "Choosing and judging").
 --
---   payloadStart v n     where it begins in a frame of n bytes
---   payloadOf v frame    the part of the frame that is lent back: from byte 14 on with Forward, else nothing
+--   payloadRange v n     where it begins and where it ends in a frame of n bytes: from byte 14 on with Forward, else nowhere
+--   bytesOver r frame    the bytes of a frame over a range
+--   Part, partOver r at frame   the part over a range of a frame that stands at `at`: where it stands itself, and its bytes
+--   payloadOf v frame    the bytes that are lent back
 --
 -- Tested by: `lent` in proofs/Bench.antt of crate tunnel; random tables and frames against the other program.
 -- Trusts: nothing.
-use Prim.Native.Nat.{ℕ}
+use Prim.Native.Nat.{ℕ, _+_, _-_}
 use mathlib.Core.Bool.{cond}
 use mathlib.Core.List.{List}
-use lib.ListN.{length, drop}
+use lib.ListN.{length, take, drop}
 use lib.Dec.{ltb}
+use Rattle.payloads.specs.declared.Range.{Range}
 use Rattle.payloads.specs.declared.Verdict.{Verdict}
 use Rattle.payloads.specs.declared.Verdict.the-variants.{Refused, Other, Forward, Filtered}
 
--- where the part begins that is lent back of a frame of n bytes; it ends with the frame
-unfoldable pub payloadStart : Verdict → ℕ → ℕ
-payloadStart (Refused k) n = n
-payloadStart Other n = n
-payloadStart (Forward k) n = cond (ltb n 14) n 14
-payloadStart Filtered n = n
+abbrev pub nowhere : Range
+nowhere = record { start = 0; end = 0 }
 
-unfoldable pub payloadOf : Verdict → List ℕ → List ℕ
-payloadOf v frame = drop (payloadStart v (length frame)) frame
+-- what a verdict lends back of a frame of n bytes: `start` is the first of its bytes, `end` the first behind them
+unfoldable pub payloadRange : Verdict → ℕ → Range
+payloadRange (Refused k) n = nowhere
+payloadRange Other n = nowhere
+payloadRange (Forward k) n = cond (ltb n 14) nowhere (record { start = 14; end = n })
+payloadRange Filtered n = nowhere
+
+abbrev pub bytesOver : Range → List ℕ → List ℕ
+bytesOver r frame = take (r .end - r .start) (drop (r .start) frame)
+
+-- a part of a frame that is lent: where it stands, a block of memory and a place in it, and its bytes
+pub record Part : Type 0 where
+  pub at : ℕ × ℕ
+  pub bytes : List ℕ
+
+-- the part over a range of a frame that stands at `at`
+abbrev pub partOver : Range → ℕ × ℕ → List ℕ → Part
+partOver r at frame = record { at = (at .0, r .start + at .1); bytes = bytesOver r frame }
+
+abbrev pub payloadOf : Verdict → List ℕ → List ℕ
+payloadOf v frame = bytesOver (payloadRange v (length frame)) frame

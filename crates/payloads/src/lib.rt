@@ -1,8 +1,10 @@
 // The verdict on a frame, and the payload of a judged frame, lent back (document 01, "Choosing and judging").
 //
-// One public function, `payload`, which takes any verdict and any frame. It writes nothing and copies nothing.
+// Two public functions, `payload` and `payload_range`, which take any verdict and any frame, or any length of one. They write
+// nothing and copy nothing. That the payload begins at byte 14 stands in `payload_range` alone.
 ghost use mathlib.Core.Path.{_≡_};
-ghost use Rattle.payloads.specs.Payload.{payloadStart, payloadOf};
+ghost use lib.ListN.{length};
+ghost use Rattle.payloads.specs.Payload.{payloadRange, partOver};
 
 // The verdict on a frame.
 pub enum Verdict {
@@ -16,28 +18,35 @@ pub enum Verdict {
     Filtered,
 }
 
-// Where the part begins that a verdict lends back of a frame of n bytes.
-fn payload_start(verdict: Verdict, n: usize) -> usize
-    ensures { λ r. ⌜ r ≡ payloadStart verdict n ⌝ }
+// A part of a frame: the bytes from `start` on, up to `end` and without it.
+pub struct Range {
+    pub start: usize,
+    pub end: usize,
+}
+
+// The range of the payload in a frame of n bytes: of a forwarded frame from 14 to its end, else empty.
+pub fn payload_range(verdict: Verdict, n: usize) -> Range
+    ensures { λ r. ⌜ r ≡ payloadRange verdict n ⌝ }
 {
     match verdict {
-        Verdict::Refused(_) => n,
-        Verdict::Other => n,
+        Verdict::Refused(_) => Range { start: 0, end: 0 },
+        Verdict::Other => Range { start: 0, end: 0 },
         Verdict::Forward(_) => {
             if n < 14 {
-                return n;
+                return Range { start: 0, end: 0 };
             }
-            14
+            Range { start: 14, end: n }
         }
-        Verdict::Filtered => n,
+        Verdict::Filtered => Range { start: 0, end: 0 },
     }
 }
 
-// The part of the frame that the verdict lends back: of a forwarded frame the bytes from 14 on, else none.
+// The part of the frame that the verdict lends back: the bytes of its range.
 pub fn payload(verdict: Verdict, frame: &[u8]) -> &[u8]
-    ensures { λ r. ⌜ now r ≡ payloadOf verdict (now (frame .entry)) ⌝ }
+    ensures { λ r. ⌜ record { at = r .ptr; bytes = now r } ≡ partOver (payloadRange verdict (length (now (frame .entry)))) (frame .entry .ptr) (now (frame .entry)) ⌝ }
 {
-    let n = frame.len();
-    let from = payload_start(verdict, n);
-    &frame[from..n]
+    let range = payload_range(verdict, frame.len());
+    let start = range.start;
+    let end = range.end;
+    &frame[start..end]
 }

@@ -6,11 +6,12 @@ use payloads::Verdict;
 use tunnel_parts::Tunnel;
 use tunnel_parts::judge_lent;
 ghost use mathlib.Core.Path.{_≡_};
+ghost use Rattle.payloads.specs.Judged.{judged};
 ghost use Rattle.tunnel_parts.specs.Prepared.{preparedVerdict};
 
 // The verdict on a frame by a prepared tunnel.
 pub fn judge_prepared(tunnel: Tunnel, frame: &[u8]) -> Verdict
-    ensures { λ r. ⌜ r ≡ preparedVerdict tunnel (now (frame .entry)) ⌝ }
+    ensures { λ r. ⌜ judged r ≡ judged (preparedVerdict tunnel (now (frame .entry))) ⌝ }
 {
     judge_lent(
         tunnel.mode,

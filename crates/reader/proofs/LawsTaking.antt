@@ -5,7 +5,7 @@
 --   left msg so                   what is left of the message
 -- Trusts: nothing.
 use Prim.Native.Nat.{ℕ, _-_}
-use mathlib.Core.Path.{_≡_, refl, sym, _∙_}
+use mathlib.Core.Path.{_≡_, refl, sym, ap, _∙_}
 use mathlib.Core.Bool.{Bool, false, cond}
 use mathlib.Core.List.{List}
 use native.Mathlib.Omega.{arith}
@@ -13,6 +13,7 @@ use lib.ListN.{length, replicate}
 use lib.Dec.{eqb}
 use Rattle.table.specs.Table.{emptyTable}
 use Rattle.table.specs.declared.Table.{Table}
+use Rattle.elements.specs.Stood.{stood}
 use Rattle.elements.proofs.Laws.{headAt-end}
 use Rattle.children.specs.Rows.{rowIn}
 use Rattle.configurations.specs.Configurations.{emptyConfiguration, configurationAt}
@@ -42,7 +43,7 @@ left msg so = cond (eqb (so .bad) 0) (length msg - so .next) 0
 configurationAt-end : (msg : List ℕ) → configurationAt msg (length msg) ≡ emptyConfiguration
 unfolding configurationAt
 configurationAt-end msg =
-    rw (rowInside-done msg (length msg) (sym (headAt-end msg (length msg) (length msg) (omega arith))) (λ len v. let z : _≡_ {A = ℕ} 0 1 = cc in omega arith))
+    rw (rowInside-done msg (length msg) (ap stood (sym (headAt-end msg (length msg) (length msg) (omega arith)))) (λ len v. let z : _≡_ {A = ℕ} 0 1 = cc in omega arith))
 
 pub taking-empty : (msg : List ℕ) {t : Table} {so : Tested} → t ≡ emptyTable → so ≡ noneTested
     → Taking msg (replicate 32 0) (replicate 32 0) (withConfiguration (configurationAt msg (length msg)) t) so

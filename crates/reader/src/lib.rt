@@ -14,6 +14,7 @@ ghost use Prim.Native.Nat.{_<_};
 ghost use lib.ListN.{length};
 ghost use Rattle.rows.specs.Rows.{testedAt};
 ghost use Rattle.reader.specs.Read.{refusal, readTable};
+ghost use Rattle.reader.specs.Shown.{shown};
 ghost use Rattle.reader.specs.Steps.{PlaceFor, judgedAs, noneTested, kindOf, GoesOn, TakesUp, ReadsAs, lastVerdict};
 
 // The longest message.
@@ -211,7 +212,7 @@ fn read_elements(message: &[u8]) -> Reading
 
 // Reads the message: 3, then its elements. After a refusal the given table is handed back.
 pub fn read_table(given: Table, message: &[u8]) -> Reading
-    ensures { λ r. ⌜ r ≡ readTable given (now (message .entry)) ⌝ }
+    ensures { λ r. ⌜ shown r ≡ shown (readTable given (now (message .entry))) ⌝ }
 {
     if MESSAGE_BYTES < message.len() {
         return refuse(3, 0, given);

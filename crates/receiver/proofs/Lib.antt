@@ -1,2 +1,3 @@
--- Laws: what proofs here and above may know of taken and receiveStep.
+-- Laws: what proofs here and above may know of taken and receiveStep. Told: what is told tells reports apart.
 pub mod Laws
+pub mod Told

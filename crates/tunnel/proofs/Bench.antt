@@ -17,7 +17,7 @@ use Rattle.choice.proofs.Bench.{application42, tableM}
 use Rattle.payloads.specs.declared.Verdict.the-variants.{Refused, Other, Forward}
 use Rattle.packets.specs.Packets.{wrongLength, addressAt}
 use Rattle.tunnel.specs.Judge.{ruleVerdict, choiceVerdict, verdictOf}
-use Rattle.payloads.specs.Payload.{payloadStart, payloadOf}
+use Rattle.payloads.specs.Payload.{payloadRange, payloadOf}
 
 abbrev pub frameM : List ℕ
 frameM = 1 ∷ 0 ∷ 94 ∷ 5 ∷ 5 ∷ 5 ∷ 0 ∷ 0 ∷ 0 ∷ 0 ∷ 0 ∷ 0 ∷ 8 ∷ 0 ∷ 69 ∷ []
@@ -27,7 +27,7 @@ unfolding verdictOf wrongLength choiceVerdict ruleVerdict addressAt numberAt cho
 forwarded = refl
 
 pub lent : payloadOf (Forward 0) frameM ≡ 69 ∷ []
-unfolding payloadOf payloadStart
+unfolding payloadRange
 lent = refl
 
 pub other : verdictOf tableM application42 Unknown (1 ∷ 0 ∷ 94 ∷ 6 ∷ 6 ∷ 6 ∷ replicate 9 0) ≡ Other

@@ -27,6 +27,7 @@ ghost use mathlib.Core.Bool.{_&&_};
 ghost use Rattle.order.specs.Best.{bestAfter};
 ghost use Rattle.listed.specs.Listed.{namesNumber};
 ghost use Rattle.matching.specs.Entry.{entryOf, fitsPacket};
+ghost use Rattle.payloads.specs.Judged.{judged};
 ghost use Rattle.tunnel.specs.Judge.{matchPlace, ruleVerdict, verdictOf};
 
 // The best so far after the classifier at place `at`.
@@ -104,7 +105,7 @@ fn judge_rule(table: Table, rule: Rule, frame: &[u8]) -> Verdict
 
 // The verdict on a frame for a client: refusal 16, then 17, then the chosen rule's.
 pub fn judge_frame(table: Table, client: Client, ucid: Ucid, frame: &[u8]) -> Verdict
-    ensures { λ r. ⌜ r ≡ verdictOf table client ucid (now (frame .entry)) ⌝ }
+    ensures { λ r. ⌜ judged r ≡ judged (verdictOf table client ucid (now (frame .entry))) ⌝ }
 {
     if wrong_length(frame) {
         return Verdict::Refused(16);

@@ -16,6 +16,7 @@ ghost use lib.Dec.{eqb};
 ghost use Rattle.order.specs.Best.{firstPlace};
 ghost use Rattle.packets.specs.Packets.{addressAt};
 ghost use Rattle.matching.specs.Entry.{matchesEntry};
+ghost use Rattle.payloads.specs.Judged.{judged};
 ghost use Rattle.tunnel_parts.specs.Prepared.{lentTunnel, entriesOf, preparedVerdict};
 
 // A prepared tunnel. Mode 0: no rule fits; 1: the rule names no classifier; any other: by its entries,
@@ -101,7 +102,7 @@ pub fn judge_lent<'a, 'b>(
     ports: &'a [u8; 32],
     frame: &'b [u8],
 ) -> Verdict
-    ensures { λ r. ⌜ r ≡ preparedVerdict (lentTunnel mode address count (now (destinations .entry)) (now (sources .entry)) (now (masks .entry)) (now (starts .entry)) (now (ends .entry)) (now (numbers .entry)) (now (ports .entry))) (now (frame .entry)) ⌝ }
+    ensures { λ r. ⌜ judged r ≡ judged (preparedVerdict (lentTunnel mode address count (now (destinations .entry)) (now (sources .entry)) (now (masks .entry)) (now (starts .entry)) (now (ends .entry)) (now (numbers .entry)) (now (ports .entry))) (now (frame .entry))) ⌝ }
 {
     if wrong_length(frame) {
         return Verdict::Refused(16);

@@ -10,6 +10,7 @@ ghost use mathlib.Core.Bool.{_&&_};
 ghost use Prim.Native.Nat.{_-_, _≤_, _<_};
 ghost use lib.Dec.{eqb};
 ghost use Rattle.types.specs.Places.{typeUnder, placeIn, lineAt, knownAt};
+ghost use Rattle.types.specs.Columns.{columns};
 
 // The row that is the whole message.
 pub const TOP_LEVEL: usize = 26;
@@ -401,7 +402,7 @@ fn find_top(kind: u8) -> Known
 
 // What the table says of the type `kind` in the row `parent`.
 pub fn find_type(parent: usize, kind: u8) -> Known
-    ensures { λ r. ⌜ r ≡ typeUnder parent kind ⌝ }
+    ensures { λ r. ⌜ columns r ≡ columns (typeUnder parent kind) ⌝ }
 {
     if parent == TOP_LEVEL {
         return find_top(kind);

@@ -3,13 +3,14 @@
 -- Trusts: nothing.
 use borrow.Author.Needs.{needs}
 use Prim.Native.Nat.{_≤_, _-_}
-use mathlib.Core.Path.{_≡_, refl, sym, _∙_}
+use mathlib.Core.Path.{_≡_, refl, sym, ap, _∙_}
 use mathlib.Core.Logic.{⊎-elim}
 use native.Mathlib.Omega.{arith}
 use lib.ListN.{length, take, drop}
 use Rattle.table.proofs.Laws.{limitedTo-le, length-mapped}
 use Rattle.table.specs.Table.{rulesOf}
 use Rattle.order.proofs.Scan.{nothing, scan-more, scan-end}
+use Rattle.choice.specs.Chose.{chose}
 use Rattle.choice.proofs.Walk.{walk, refuses, chooses, stays}
 use Rattle.choice.proofs.choose_rule.Statement.{statement}
 use Rattle.choice.proofs.choose_rule.Tie as tie
@@ -43,14 +44,14 @@ unfolding rulesOf
 returns c =
     let inv = c .before .before .loop .inv in
     let done = sym (scan-end _ _ _ _ _ _ _ (c .before .loop-test .left)) ∙ inv .3 in
-    refuses _ _ _ (inv .2) _ (rw (c .before .before .before .before .limited .ensures) at done) (c .if2 .taken)
+    ap chose (refuses _ _ _ (inv .2) _ (rw (c .before .before .before .before .limited .ensures) at done) (c .if2 .taken))
 
 returns-2 : tie.Need-returns-2 Inv-loop μ-loop
 unfolding rulesOf
 returns-2 c =
     let inv = c .before .before .loop .inv in
     let done = sym (scan-end _ _ _ _ _ _ _ (c .before .loop-test .left)) ∙ inv .3 in
-    chooses _ _ _ (inv .2) _ (rw (c .before .before .before .before .limited .ensures) at done) (c .if2 .left)
+    ap chose (chooses _ _ _ (inv .2) _ (rw (c .before .before .before .before .limited .ensures) at done) (c .if2 .left))
 
 pub choose-rule-spec : {M : Type 1} → statement M
 choose-rule-spec =

@@ -20,7 +20,7 @@ rule-at-spec =
     (tie.spec
     (λ c κs. search needs)
     (λ c. omega (arith, small c))
-    small
+    (λ c. omega (arith, small c))
     (λ c. ruleAt-in _ _ _ (rw (c .before .before .limited .ensures) at (c .before .if1 .taken)) (search (needs, length-mapped)))
     (λ c κs. search needs)
     (λ c. c .empty-rule .ensures ∙ ruleAt-out _ _ (rw (c .before .before .limited .ensures) at (c .before .if1 .left)) (search (needs, length-mapped))))

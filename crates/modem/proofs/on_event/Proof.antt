@@ -42,6 +42,7 @@ use denote.Triple.Walked.{AllGo, goes-none, goes-ref, Walks, walked, walk-meets}
 use denote.Exit.{yes}
 use Rattle.modem_record.proofs.Modem as D0
 use Rattle.modem_record.proofs.Modem.Laws as D0′
+use Rattle.modem_step.specs.Numbers.{asNumbers}
 use Rattle.modem_step.proofs.Answer as D1
 use Rattle.modem_step.proofs.Answer.Laws as D1′
 use Rattle.modem_rows.proofs.Event as D2
@@ -84,7 +85,7 @@ module _ {M : Type 1} (𝓤 : URA M) (H : Heap 𝓤) (A : Atoms 𝓤) (W : Given
       calls-at ! fm (Callee 𝓤 H A at-mem run) known (to 𝓤 H A W at-mem run i)
       (and-then ! (load ! (from ! (stop !)) (look ! 8 refl)) (and-then ! (load ! (from ! (stop !)) (look ! 14 refl)) (and-then ! (load ! (from ! (stop !)) (look ! 12 refl)) (no-more !)))) (λ v.
       use1 W (gives 𝓤 H A W at-mem run i v) (id⊢ 𝓤 _) $ await ! tt $ pick ! (λ r. split ! $ move ! (1 ∷ []) $ pick ! (λ zs.
-      split ! $ move ! (1 ∷ []) $ heard ! (r ≡ stepped i) (λ eq.
+      split ! $ move ! (1 ∷ []) $ heard ! (asNumbers r ≡ asNumbers (stepped i)) (λ eq.
       drop ! $ split ! $ move ! (1 ∷ []) $ peeks ! D3.the-row (Is D3.the-row) (shows 𝓤 H A D3.the-row) r (v ∷ []) (λ is.
       land ! (from ! (stop !)) (init ! 11 refl (LL.lawful D3.the-type D3′.the-laws 𝓤 H A W .typed r _ is .0)) $
       rewrite ! 11 (λ (u : Val). ‵ (fat fullShare D3′.mir l4 0 u)) (ap only (LL.tells D3.the-type D3′.the-laws r _ is)) refl $

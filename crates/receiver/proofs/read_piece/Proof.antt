@@ -6,6 +6,7 @@ use lib.ListN.{drop-of-length-le}
 use borrow.Author.Needs.{needs}
 use Rattle.wire.proofs.Laws.{rest-all}
 use Rattle.reader.specs.Read.{readTable}
+use Rattle.reader.proofs.Shown.{shown-only}
 use Rattle.receiver.proofs.read_piece.Statement.{statement}
 use Rattle.receiver.proofs.read_piece.Tie as tie
 
@@ -13,13 +14,13 @@ use Rattle.receiver.proofs.read_piece.Tie as tie
 returns : tie.Need-returns
 returns c =
     let a = c .before .before .before .before .args in
-    c .read-table .ensures ∙ ap (readTable (a .table)) (sym (drop-of-length-le (a .body .now) {i = 3} (omega arith)))
+    shown-only _ _ (c .read-table .ensures) ∙ ap (readTable (a .table)) (sym (drop-of-length-le (a .body .now) {i = 3} (omega arith)))
 
 -- the piece
 returns-2 : tie.Need-returns-2
 returns-2 c =
     let a = c .before .before .before .before .args in
-    c .read-table2 .ensures ∙ ap (readTable (a .table)) (rest-all (a .body .now) 3)
+    shown-only _ _ (c .read-table2 .ensures) ∙ ap (readTable (a .table)) (rest-all (a .body .now) 3)
 
 pub read-piece-spec : {M : Type 1} → statement M
 read-piece-spec =

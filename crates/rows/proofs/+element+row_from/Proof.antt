@@ -11,7 +11,9 @@ use borrow.Author.Tests.{not-true, not-false}
 use lib.ListN.{length, length-set}
 use lib.Seq.{set-out}
 use denote.Ref.{now}
+use Rattle.types.proofs.Columns.{columns-only}
 use Rattle.elements.proofs.Laws.{headAt-fits}
+use Rattle.elements.proofs.Stood.{stood-only}
 use Rattle.types.proofs.LawsTypes.{typeUnder-list}
 use Rattle.rows.proofs.Ways.{row-ends, row-bad, row-stops, row-goes, elem-unlisted, Own, elem-own, elem-leaf, elem-inner, elem-row}
 use Rattle.rows.proofs.element.Reads as element
@@ -32,7 +34,7 @@ module _ (t : ℕ) where
       → (let a = c .before .before .before .before .before .before .args in
       Own (now (a .message)) (a .parent) (a .at) (a .len) (now (a .counts)) (c .before .before .before .find-type .result) (c .own-tests .result))
   own c =
-      record { typed = c .before .before .before .find-type .ensures; listed = c .before .before .if1 .left; tests = c .own-tests .ensures }
+      record { typed = columns-only _ _ (c .before .before .before .find-type .ensures); listed = c .before .before .if1 .left; tests = c .own-tests .ensures }
 
   -- the value is no row
   element-returns-3 : element-lts.Need-returns-3 (element-claims t) (element-at t) element.Post
@@ -70,7 +72,7 @@ module _ (t : ℕ) where
       → (let top = c .before .before .before in
       let a = top .before .before .args in
       (top .loop .at + 2 + c .len .given .0 .0 ≤ a .end) × (top .loop .at + 2 + c .len .given .0 .0 ≤ length (now (a .message))))
-  fits c = let f = headAt-fits _ _ _ (sym (c .before .before .read-head .ensures) ∙ c .len .given .1) in (f .0, f .1)
+  fits c = let f = headAt-fits _ _ _ (sym (stood-only _ _ (c .before .before .read-head .ensures)) ∙ c .len .given .1) in (f .0, f .1)
 
   -- a child that is refused
   row-from-returns-3 : row-from-lts.Need-returns-3 (row-from-claims t) (row-from-at t) row-from.Post row-from-Inv-loop row-from-μ-loop
@@ -105,8 +107,8 @@ pub +element+row-from-spec : {M : Type 1} → statement M
     element.Post
     (λ c. search needs)
     (λ c κs. search needs)
-    (λ c. elem-unlisted _ _ _ _ _ (c .before .find-type .ensures) (c .if1 .taken))
-    (λ c. typeUnder-list _ _ (c .before .find-type .ensures))
+    (λ c. elem-unlisted _ _ _ _ _ (columns-only _ _ (c .before .find-type .ensures)) (c .if1 .taken))
+    (λ c. typeUnder-list _ _ (columns-only _ _ (c .before .find-type .ensures)))
     (λ c κs. search needs)
     (λ c. elem-own _ _ _ _ _ (own t (c .before .before)) (c .if2 .taken))
     (λ c κs. search needs)

@@ -8,7 +8,9 @@ use native.Mathlib.Omega.{arith}
 use denote.Ref.{now}
 use lib.ListN.{length, set}
 use lib.Seq.{set-out}
+use Rattle.types.proofs.Columns.{columns-only}
 use Rattle.elements.proofs.Laws.{headAt-fits}
+use Rattle.elements.proofs.Stood.{stood-only}
 use Rattle.rows.proofs.Ways.{elem-unlisted, top-ends, top-bad, top-goes}
 use Rattle.rows.proofs.test_element.Statement.{statement}
 use Rattle.rows.proofs.test_element.Tie as tie
@@ -25,7 +27,7 @@ Entry c = c .before .before .before .before
 
 -- the value that a whole head announces lies in the message
 fits : (c : tie.After-len) → Entry c .args .at + 2 + c .len .given .0 .0 ≤ length (now (Entry c .args .message))
-fits c = headAt-fits _ _ _ (sym (c .before .before .read-head .ensures) ∙ c .len .given .1) .1
+fits c = headAt-fits _ _ _ (sym (stood-only _ _ (c .before .before .read-head .ensures)) ∙ c .len .given .1) .1
 
 -- a count past the eight lists changes none
 uncounted : (c : tie.Start) (list count : ℕ) → 8 ≤ list → c .args .tally .counts ≡ set (c .args .tally .counts) list count
@@ -37,7 +39,7 @@ uncounted c list count h =
 returns : tie.Need-returns
 returns c =
     let head = Unlisted c in
-    let step = elem-unlisted _ _ _ _ _ (c .before .find-type .ensures) (c .if1 .taken) in
+    let step = elem-unlisted _ _ _ _ _ (columns-only _ _ (c .before .find-type .ensures)) (c .if1 .taken) in
     top-goes _ _ _ (head .before .before .read-head .ensures) (head .len .given .1) step (uncounted (Entry head) 8 0 (omega arith))
 
 -- the element is counted
