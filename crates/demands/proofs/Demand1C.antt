@@ -19,7 +19,7 @@ use mathlib.Core.Logic.{_⊎_}
 use native.Mathlib.Omega.{arith}
 use lib.ListN.{length}
 use lib.Dec.{eqb}
-use Rattle.collector.specs.Answers.{Said, refused, again, waiting, complete}
+use Rattle.collector.specs.Answers.{Said, refused, again, waiting, complete, Place, inBody, placeOf}
 use Rattle.collector.specs.Step.{After, collectStep}
 use Rattle.collection.specs.declared.Collection.{Collection}
 use Rattle.table.specs.declared.Table.{Table}
@@ -39,7 +39,7 @@ use Rattle.payloads.specs.declared.Verdict.the-variants as verdict
 use Rattle.tunnel.specs.Judge.{verdictOf}
 use Rattle.tunnel_parts.specs.Prepared.{preparedVerdict}
 use Rattle.modem_record.specs.declared.Modem.{Modem}
-use Rattle.dsg_pieces.specs.Bodies.{completeOf, collectedOf, CollectAfter, collectAfter, receivedOf, ReceiveAfter, receiveAfter}
+use Rattle.dsg_pieces.specs.Bodies.{completeAt, collectedOf, CollectAfter, collectAfter, receivedOf, ReceiveAfter, receiveAfter}
 use Rattle.dsg_tables.specs.Tables.{readStepped, listedAs, listingAs}
 use Rattle.dsg_frames.specs.Frames.{clientOf, ucidOf, choiceFor, verdictAs, verdictFor}
 use Rattle.dsg_events.specs.Events.{eventStepped}
@@ -49,9 +49,9 @@ use Rattle.demands.proofs.Demand1Frames.{choiceOf-refused, verdictOf-re
 
 -- ---- bodies
 
-complete-kind : (n number : ℕ) → completeOf n number .kind ≡ 0 → ⊥
-complete-kind n number = go (eqb number 1) where
-  go : (b : Bool) → cond b (completeOf n 1) (completeOf n 2) .kind ≡ 0 → ⊥
+complete-kind : (p : Place) → completeAt p .kind ≡ 0 → ⊥
+complete-kind p = go (eqb (p .source) inBody) where
+  go : (b : Bool) → _≡_ {A = ℕ} (cond b 3 4) 0 → ⊥
   go true e = omega arith
   go false e = omega arith
 
@@ -60,7 +60,7 @@ refused-kind : (s : Said) (number : ℕ) → collectedOf s number .kind ≡ 0 �
 refused-kind (refused n) number e = refl
 refused-kind again number e = absurd (omega arith)
 refused-kind (waiting k) number e = absurd (omega arith)
-refused-kind (complete n) number e = absurd (complete-kind n number e)
+refused-kind (complete n) number e = absurd (complete-kind (placeOf (complete n) number) e)
 
 pub collectAfter-refused : (r : Collection) (slots join body : List ℕ) → (let x = collectAfter r slots join body in x .answer .kind ≡ 0
     → (x .held ≡ r) × (x .slots ≡ slots) × (x .join ≡ join) × (1 ≤ x .answer .number) × (x .answer .number ≤ 5))

@@ -10,7 +10,7 @@ use denote.Ref.{now}
 use denote.Triple.Entry.{Args, Res}
 use denote.Triple.Clauses.{AtExit}
 use Rattle.demands.proofs.Contract.{Gives, Says, answer}
-use Rattle.collector.specs.Answers.{said, lentOf}
+use Rattle.collector.specs.Answers.{said, placeOf, ownOf, joinedOf}
 use Rattle.collection.specs.Record.{emptyCollection}
 use Rattle.collector.specs.Step.{After, collectStep}
 use Rattle.lending.specs.Lent.{LentAfter, lentStep}
@@ -18,7 +18,10 @@ use Rattle.collection.proofs.empty_collection.Reads as empty_collection
 use Rattle.collector.proofs.collect.Reads as collect
 use Rattle.collector.proofs.collect.Statement as collect′
 use Rattle.collector.proofs.collect.Met as collect″
-use Rattle.messages.proofs.message.Reads as message
+use Rattle.messages.specs.Place.{placed}
+use Rattle.messages.proofs.find_message.Reads as find_message
+use Rattle.messages.proofs.own_part.Reads as own_part
+use Rattle.messages.proofs.joined_part.Reads as joined_part
 use Rattle.lending.proofs.collect_lent as collect_lent
 use Rattle.lending.proofs.collect_lent.Statement as collect_lent′
 use Rattle.lending.proofs.collect_lent.Met as collect_lent″
@@ -31,7 +34,7 @@ use Rattle.receiver.proofs.receive.Reads as receive
 use Rattle.receiver.proofs.receive.Statement as receive′
 use Rattle.receiver.proofs.receive.Met as receive″
 
--- ---- collecting pieces: the answer, the record and both buffers; the message lent with an answer
+-- ---- collecting pieces: the answer, the record and both buffers; where the message stands, and its two parts
 
 pub collect-met : {M : Type 1} → collect′.statement M
 collect-met = collect″.met
@@ -40,16 +43,22 @@ pub collect-gives : (κs : Lfts 3) → Gives {L = After} (λ x s. record { answe
     (λ a. collectStep (a .0) (now (a .1 .0)) (now (a .1 .1 .0)) (now (a .1 .1 .1 .0)))
 collect-gives κs a x s h = h
 
-pub message-gives : (κs : Lfts 1) → Gives (λ x s. now x) (message.Post κs) (λ a. lentOf (said (a .0 .answer)) (a .0 .held .number) (now (a .1 .0)) (now (a .1 .1 .0)))
-message-gives κs a x s h = h
+pub find_message-gives : (κs : Lfts 0) → Gives (λ x s. placed x) (find_message.Post κs) (λ a. placeOf (said (a .0)) (a .1 .0))
+find_message-gives κs a x s h = h
+
+pub own_part-gives : (κs : Lfts 1) → Gives (λ x s. now x) (own_part.Post κs) (λ a. ownOf (said (a .0 .answer)) (a .0 .held .number) (now (a .1 .0)))
+own_part-gives κs a x s h = h
+
+pub joined_part-gives : (κs : Lfts 1) → Gives (λ x s. now x) (joined_part.Post κs) (λ a. joinedOf (said (a .0 .answer)) (a .0 .held .number) (now (a .1 .0)))
+joined_part-gives κs a x s h = h
 
 pub empty_collection-gives : (κs : Lfts 0) → Gives answer (empty_collection.Post κs) (λ a. emptyCollection 0 0)
 empty_collection-gives κs a x s h = h
 
--- the same with the message lent as a part, and the rest of the join buffer: what is seen of it
+-- the same with the message lent as a part, and the join buffer whole: what is seen of it
 abbrev pub LentSeen : (κs : Lfts 3) → Res collect_lent.signature κs → AtExit collect_lent.ended κs → LentAfter
 LentSeen κs x s =
-    record { answer = said (x .outcome .answer); held = x .outcome .held; slots = now (s .1 .0); own = now (x .own); joined = now (x .joined); rest = now (x .rest) }
+    record { answer = said (x .outcome .answer); held = x .outcome .held; slots = now (s .1 .0); own = now (x .own); joined = now (x .joined); join = now (x .join) }
 
 -- it is walked by hand, so its plain fact is written out, and `collect_lent-says` is that this is the contract
 abbrev pub CollectLent : (κs : Lfts 3) → Args collect_lent.signature κs → Res collect_lent.signature κs → AtExit collect_lent.ended κs → Type 0

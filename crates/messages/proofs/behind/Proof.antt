@@ -1,4 +1,4 @@
--- `lending::behind` gives `drop`, which is nothing of a list that is shorter.
+-- `messages::behind` gives `drop`, which is nothing of a list that is shorter.
 -- Trusts: nothing.
 use borrow.Author.Needs.{needs}
 use mathlib.Core.Path.{sym}
@@ -7,8 +7,8 @@ use denote.Ref.{now}
 use Prim.Native.Nat.{_≤_}
 use lib.ListN.{length, drop-of-length-le}
 use Rattle.wire.proofs.Laws.{rest-all}
-use Rattle.lending.proofs.behind.Statement.{statement}
-use Rattle.lending.proofs.behind.Tie as tie
+use Rattle.messages.proofs.behind.Statement.{statement}
+use Rattle.messages.proofs.behind.Tie as tie
 
 returns : tie.Need-returns
 returns c =
