@@ -3,7 +3,8 @@
 --
 --   collectAfter-refused   `dsg_collect`, kind 0: 1 to 5; the record and both buffers are as they were
 --   receiveAfter-refused   `dsg_receive`, kind 0: the same, and the table
---   receiveAfter-message   `dsg_receive`, kind 4: 3 at 0, or 6 to 15; the table is as it was
+--   receiveAfter-message   `dsg_receive`, kind 4: the number and the offset that reading the message gives, 3 at 0, or 6 to 15; the table is as it was
+--   receiveAfter-kept      `dsg_receive`, any kind: the record and both buffers are exactly those that `dsg_collect` leaves
 --   readStepped-refused    `dsg_read`, a number that is not 0: 3 at 0, or 6 to 15; the table is as it was
 --   listingAs-refused      `dsg_list_table` and `dsg_list_body`, a number that is not 0: 100, our own; the buffer is as it was
 --   choiceFor-refused      `dsg_choose`, a number that is not 0: 17
@@ -44,7 +45,7 @@ use Rattle.dsg_tables.specs.Tables.{readStepped, listedAs, listingAs}
 use Rattle.dsg_frames.specs.Frames.{clientOf, ucidOf, choiceFor, verdictAs, verdictFor}
 use Rattle.dsg_events.specs.Events.{eventStepped}
 use Rattle.demands.proofs.Demand1.{collectStep-refused, readTable-refused, listing-refused}
-use Rattle.demands.proofs.Demand1Receive.{receiveStep-refused, receiveStep-message, messageAfter}
+use Rattle.demands.proofs.Demand1Receive.{receiveStep-refused, receiveStep-message, receiveStep-kept, messageAfter}
 use Rattle.demands.proofs.Demand1Frames.{choiceOf-refused, verdictOf-refused, preparedVerdict-refused, numberedStep-refused}
 
 -- ---- bodies
@@ -89,12 +90,17 @@ receiveAfter-refused r t slots join body e =
     let c = receiveStep-refused r t slots join body _ (body-kind (receiveStep r t slots join body .report) e) in
     (ap (λ (s : Had). s .held) (c .0), ap (λ (s : Had). s .table) (c .0), ap (λ (s : Had). s .slots) (c .0), ap (λ (s : Had). s .join) (c .0), c .1, c .2)
 
-pub receiveAfter-message : (r : Collection) (t : Table) (slots join body : List ℕ) → (let x = receiveAfter r t slots join body in x .answer .kind ≡ 4
-    → (x .table ≡ t) × (((x .answer .number ≡ 3) × (x .answer .offset ≡ 0))
-    ⊎ ((6 ≤ x .answer .number) × (x .answer .number ≤ 15) × (x .answer .offset < length (messageAfter (collectStep r slots join body) body)))))
+pub receiveAfter-message : (r : Collection) (t : Table) (slots join body : List ℕ) → (let x = receiveAfter r t slots join body in
+    let message = messageAfter (collectStep r slots join body) body in
+    x .answer .kind ≡ 4 → (x .table ≡ t) × (readTable t message .verdict ≡ reading.Refused (x .answer .number) (x .answer .offset))
+    × (((x .answer .number ≡ 3) × (x .answer .offset ≡ 0)) ⊎ ((6 ≤ x .answer .number) × (x .answer .number ≤ 15) × (x .answer .offset < length message))))
 receiveAfter-message r t slots join body e =
     let c = receiveStep-message r t slots join body _ _ (message-kind (receiveStep r t slots join body .report) e) in
-    (ap (λ (s : Had). s .table) (c .0), c .1)
+    (ap (λ (s : Had). s .table) (c .0), c .1, c .2)
+
+pub receiveAfter-kept : (r : Collection) (t : Table) (slots join body : List ℕ) → (let x = receiveAfter r t slots join body in let y = collectAfter r slots join body in
+    (x .held ≡ y .held) × (x .slots ≡ y .slots) × (x .join ≡ y .join))
+receiveAfter-kept = receiveStep-kept
 
 -- ---- tables
 

@@ -4,7 +4,8 @@
 -- For each entry, NAME-met: the compiled function meets its contract, as its own crate proves; and NAME-gives: whatever meets that contract
 -- gives, for every input, the definition. What the definitions mean is for a reader to see (docs/MAP.md).
 -- Trusts: nothing.
-use mathlib.Core.Path.{_≡_, refl}
+use mathlib.Core.Path.{_≡_, refl, subst⁻¹}
+use lib.ListN.{length, take}
 use contract.Lifetimes.{Lfts}
 use denote.Ref.{now}
 use denote.Triple.Entry.{Args, Res}
@@ -14,6 +15,7 @@ use Rattle.collector.specs.Answers.{said, placeOf, ownOf, joinedOf}
 use Rattle.collection.specs.Record.{emptyCollection}
 use Rattle.collector.specs.Step.{After, collectStep}
 use Rattle.lending.specs.Lent.{LentAfter, lentStep}
+use Rattle.lending.proofs.Laws.{lentStep-front}
 use Rattle.collection.proofs.empty_collection.Reads as empty_collection
 use Rattle.collector.proofs.collect.Reads as collect
 use Rattle.collector.proofs.collect.Statement as collect′
@@ -73,6 +75,13 @@ collect_lent-says M 𝓤 H A mem run κs a g x s = refl
 pub collect_lent-gives : (κs : Lfts 3) → Gives (LentSeen κs) (CollectLent κs)
     (λ a. lentStep (a .0) (now (a .1 .0)) (now (a .1 .1 .0)) (now (a .1 .1 .1 .0)))
 collect_lent-gives κs a x s h = h
+
+-- so the message's part stands at the start of the buffer that is lent back, and nowhere else
+pub collect_lent-front : (κs : Lfts 3) (a : Args collect_lent.signature κs) (x : Res collect_lent.signature κs) (s : AtExit collect_lent.ended κs)
+    → CollectLent κs a x s → take (length (now (x .joined))) (now (x .join)) ≡ now (x .joined)
+collect_lent-front κs a x s h =
+    subst⁻¹ (λ (r : LentAfter). take (length (r .joined)) (r .join) ≡ r .joined) h
+    (lentStep-front (a .0) (now (a .1 .0)) (now (a .1 .1 .0)) (now (a .1 .1 .1 .0)))
 
 -- ---- reading a table: the verdict and the table
 

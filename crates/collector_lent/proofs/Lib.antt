@@ -1,0 +1,4 @@
+-- Lent: demand 3 over what is lent.
+-- Host: demand 3 as a C host sees it.
+pub mod Lent
+pub mod Host
