@@ -4,7 +4,7 @@
 --   demand-3-host     from any lent record that holds nothing, or another count or number
 -- Trusts: nothing.
 use Prim.Native.Nat.{ℕ, _+_, _≤_}
-use mathlib.Core.Path.{_≡_, refl, sym, ap, _∙_}
+use mathlib.Core.Path.{_≡_, refl, ap, _∙_}
 use mathlib.Core.Bool.{Bool, true, false, cond}
 use mathlib.Core.List.{List, [], _∷_}
 use lib.ListN.{length, take}
@@ -15,8 +15,8 @@ use Rattle.collector.specs.Step.{After}
 use Rattle.collector_demands.specs.Demand.{Lent, called, lentAfter, isComplete, completions, Cutting, Apart, Demand3}
 use Rattle.collector_demands.proofs.Demands.{demand-3}
 use Rattle.dsg_pieces.specs.Bodies.{collectedOf, collectedAs}
-use Rattle.collector_lent.specs.Host.{hosts, hostAfter, namedBy, isNamed, named, HostOnce}
-use Rattle.collector_lent.proofs.Lent.{MessageAt, message-at, elsewhere}
+use Rattle.collector_lent.specs.Host.{hostAfter, namedBy, isNamed, named, HostOnce}
+use Rattle.collector_lent.proofs.Lent.{message-at, elsewhere}
 
 -- kinds 3 and 4 are said of a complete message only
 named-complete : (a : Said) (number : ℕ) → isNamed (collectedOf a number .kind) ≡ isComplete a

@@ -5,22 +5,21 @@
 --   demand-3-parts    from any lent record that holds nothing, or another count or number
 -- Trusts: nothing.
 use Prim.Native.Nat.{ℕ, _≤_}
-use mathlib.Core.Path.{_≡_, refl, sym, ap, _∙_}
+use mathlib.Core.Path.{_≡_, refl, ap}
 use mathlib.Core.Bool.{Bool, true, false, cond}
 use mathlib.Core.List.{List, [], _∷_}
 use native.Mathlib.Omega.{arith}
 use lib.ListN.{length}
 use lib.Dec.{eqb}
-use Rattle.body_tests.specs.Refusals.{numberOf}
 use Rattle.collector.specs.Answers.{Said, refused, again, waiting, complete, ownOf, joinedOf, lentOf}
-use Rattle.collector.specs.Step.{After, collectStep}
+use Rattle.collector.specs.Step.{After}
 use Rattle.collector_demands.specs.Runs.{Reply}
-use Rattle.collector_demands.specs.Demand.{Lent, called, lentAfter, replyTo, isComplete, Cutting, bodyOf, Arrived, other, piece, Apart, Demand3}
+use Rattle.collector_demands.specs.Demand.{Lent, called, lentAfter, isComplete, Cutting, bodyOf, Arrived, other, piece, Apart, Demand3}
 use Rattle.collector_demands.specs.Last.{IsLast}
 use Rattle.collector_demands.proofs.Demands.{demand-3}
 use Rattle.collector_demands.proofs.Last.{only-there, complete-number}
-use Rattle.lending.specs.Lent.{LentAfter, lentStep}
-use Rattle.collector_lent.specs.Lent.{lends, keptAfter, lentTo, LentOnce}
+use Rattle.lending.specs.Lent.{lentStep}
+use Rattle.collector_lent.specs.Lent.{keptAfter, LentOnce}
 
 -- ---- what the collector does there
 
