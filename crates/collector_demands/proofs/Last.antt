@@ -4,26 +4,25 @@
 --   only-there        demand 3 says it of a body at its position
 --   complete-number   the number of the record that a completing body leaves is the body's
 -- Trusts: nothing.
-use Prim.Native.Nat.{ℕ, zero, suc, _*_, _-_, _+_, _<_}
+use Prim.Native.Nat.{ℕ, zero, suc, _*_, _-_, _<_}
 use mathlib.Core.Path.{_≡_, refl, sym, ap, subst, _∙_}
 use mathlib.Core.Bool.{Bool, true, false, cond}
-use mathlib.Core.List.{List, _∷_, _++_}
+use mathlib.Core.List.{List, _∷_}
 use mathlib.Core.Logic.{_⊎_, inl, inr, ⊎-elim}
 use native.Mathlib.Omega.{arith}
 use borrow.Author.Tests.{eqb-true, eqb-false}
-use lib.ListN.{length, drop}
+use lib.ListN.{length}
 use lib.Dec.{eqb}
 use Rattle.wire.specs.Bytes.{pasted}
-use Rattle.held.specs.Held.{emptySlots}
-use Rattle.joining.specs.Pieces.{joined}
 use Rattle.body_tests.specs.Refusals.{numberOf, slotOf, pieceOf, refusalOf}
 use Rattle.collection.specs.declared.Collection.{Collection}
-use Rattle.collector.specs.Answers.{refused, again, waiting, complete}
-use Rattle.collector.specs.Step.{relationOf, baseOf, noted, after, finished, accepted, collectStep}
+use Rattle.collector.specs.Answers.{refused, again, complete}
+use Rattle.collector.specs.Step.{relationOf, baseOf, noted, After, after, finished, accepted, collectStep}
 use Rattle.collector.proofs.LawsStep.{baseOf-number}
 use Rattle.collector_demands.specs.Runs.{Reply}
 use Rattle.collector_demands.specs.Demand.{Lent, replyTo, isComplete, completions, Arrived, none, other, piece, Came, Demand3}
 use Rattle.collector_demands.specs.Last.{IsLast, OnlyThere}
+use Rattle.collector_demands.proofs.Refine.{finished-held}
 
 pub came-or-not : {count : ℕ} {pieces h : List (List ℕ)} (k : ℕ) (t : Arrived count pieces h) → Came k t ⊎ (Came k t → ⊥)
 unfolding Came
@@ -81,19 +80,8 @@ module _ (s : Lent) (count : ℕ) (message : List ℕ) (pieces : List (List ℕ)
 
 -- ---- the number of the record
 
-finished-held : (next : Collection) (slots join : List ℕ) (len : ℕ) → finished next slots join len .held ≡ next
-unfolding finished
-finished-held next slots join len = go (eqb (emptySlots (next .filled) (next .number)) 0) (eqb (next .number) 1) where
-  whole : List ℕ
-  whole = joined slots (next .lengths) (next .number)
-
-  go : (t u : Bool) → cond t (cond u (after (complete len) next slots join) (after (complete (length whole)) next slots (whole ++ drop (length whole) join)))
-      (after (waiting (emptySlots (next .filled) (next .number))) next slots join) .held ≡ next
-  go true true = refl
-  go true false = refl
-  go false u = refl
-
-pub complete-number : (r : Collection) (slots join b : List ℕ) (n : ℕ) → collectStep r slots join b .answer ≡ complete n → collectStep r slots join b .held .number ≡ numberOf b
+pub complete-number : (r : Collection) (slots join b : List ℕ) (n : ℕ) → collectStep r slots join b .answer ≡ complete n
+    → collectStep r slots join b .held .number ≡ numberOf b
 unfolding collectStep accepted
 complete-number r slots join b n = go (eqb (refusalOf (length slots) (length join) b) 0) (eqb (relationOf r slots b) 1) where
   next : Collection
@@ -102,8 +90,10 @@ complete-number r slots join b n = go (eqb (refusalOf (length slots) (length joi
   stored : List ℕ
   stored = pasted slots (slotOf b * 1500) (pieceOf b)
 
-  go : (t u : Bool) → (let x = cond t (cond u (after again r slots join) (finished next stored join (length b - 3))) (after (refused (refusalOf (length slots) (length join) b)) r slots join) in
-      x .answer ≡ complete n → x .held .number ≡ numberOf b)
+  way : Bool → Bool → After
+  way t u = cond t (cond u (after again r slots join) (finished next stored join (length b - 3))) (after (refused (refusalOf (length slots) (length join) b)) r slots join)
+
+  go : (t u : Bool) → way t u .answer ≡ complete n → way t u .held .number ≡ numberOf b
   go false u e = absurd (let z : _≡_ {A = ℕ} 0 1 = cc in omega arith)
   go true true e = absurd (let z : _≡_ {A = ℕ} 0 1 = cc in omega arith)
   go true false e = ap (λ (c : Collection). c .number) (finished-held next stored join (length b - 3)) ∙ baseOf-number r slots b

@@ -30,7 +30,8 @@ named-complete (complete n) number = go (eqb number 1) refl where
 
 -- and what they name is the message
 named-message : (a : After) (of′ : ℕ) (body message : List ℕ) → a .answer ≡ complete (length message) → a .held .number ≡ of′
-    → lentOf (a .answer) (a .held .number) body (a .join) ≡ message → (collectedAs a .answer .kind ≡ cond (eqb of′ 1) 3 4) × (namedBy (collectedAs a) body ≡ message)
+    → lentOf (a .answer) (a .held .number) body (a .join) ≡ message
+    → (collectedAs a .answer .kind ≡ cond (eqb of′ 1) 3 4) × (namedBy (collectedAs a) body ≡ message)
 unfolding lentOf
 named-message a of′ body message d q m = rw (← q) (go (eqb (a .held .number) 1) refl) where
   go : (t : Bool) → eqb (a .held .number) 1 ≡ t → (collectedAs a .answer .kind ≡ cond (eqb (a .held .number) 1) 3 4) × (namedBy (collectedAs a) body ≡ message)

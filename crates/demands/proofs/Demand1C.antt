@@ -98,8 +98,8 @@ receiveAfter-message r t slots join body e =
     let c = receiveStep-message r t slots join body _ _ (message-kind (receiveStep r t slots join body .report) e) in
     (ap (λ (s : Had). s .table) (c .0), c .1, c .2)
 
-pub receiveAfter-kept : (r : Collection) (t : Table) (slots join body : List ℕ) → (let x = receiveAfter r t slots join body in let y = collectAfter r slots join body in
-    (x .held ≡ y .held) × (x .slots ≡ y .slots) × (x .join ≡ y .join))
+pub receiveAfter-kept : (r : Collection) (t : Table) (slots join body : List ℕ)
+    → (let x = receiveAfter r t slots join body in let y = collectAfter r slots join body in (x .held ≡ y .held) × (x .slots ≡ y .slots) × (x .join ≡ y .join))
 receiveAfter-kept = receiveStep-kept
 
 -- ---- tables

@@ -71,7 +71,7 @@ receiveStep-message r t slots join body n off e =
     let d = readTable-refused t (messageAfter a body) n off (m .0) in
     (rw (e, m .1, d .0) refl, m .0, d .1)
 
-pub receiveStep-kept : (r : Collection) (t : Table) (slots join body : List ℕ) → (let x = receiveStep r t slots join body in let a = collectStep r slots join body in
-    (x .held ≡ a .held) × (x .slots ≡ a .slots) × (x .join ≡ a .join))
+pub receiveStep-kept : (r : Collection) (t : Table) (slots join body : List ℕ)
+    → (let x = receiveStep r t slots join body in let a = collectStep r slots join body in (x .held ≡ a .held) × (x .slots ≡ a .slots) × (x .join ≡ a .join))
 unfolding receiveStep
 receiveStep-kept r t slots join body = (refl, refl, refl)

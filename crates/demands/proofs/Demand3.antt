@@ -48,7 +48,8 @@ demand-3 s room space count message pieces cut apart =
 
 pub demand-3-there : (s : Lent) → 24000 ≤ length (s .slots) → 24000 ≤ length (s .join) → (count : ℕ) (message : List ℕ) (pieces : List (List ℕ)) → Cutting message pieces
     → Apart (s .held) count (length pieces) → OnlyThere s count pieces
-demand-3-there s room space count message pieces cut apart = only-there s count message pieces (collected-proved.demand-3 s room space count message pieces cut apart)
+demand-3-there s room space count message pieces cut apart =
+    only-there s count message pieces (collected-proved.demand-3 s room space count message pieces cut apart)
 
 -- over what is lent, and over what a C host is told: crate collector_lent
 pub demand-3-lent : (s : Lent) → 24000 ≤ length (s .slots) → 24000 ≤ length (s .join) → (count : ℕ) (message : List ℕ) (pieces : List (List ℕ)) → Cutting message pieces

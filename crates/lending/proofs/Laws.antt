@@ -13,8 +13,8 @@ use Rattle.collection.specs.declared.Collection.{Collection}
 use Rattle.messages.proofs.Laws.{joinedOf-front}
 use Rattle.lending.specs.Lent.{LentAfter, lentStep}
 
-pub step-lent : (r : Collection) (slots join body : List ℕ) (R : After) (own part whole : List ℕ) → R ≡ collectStep r slots join body → own ≡ ownOf (R .answer) (R .held .number) body
-    → part ≡ joinedOf (R .answer) (R .held .number) (R .join) → whole ≡ R .join
+pub step-lent : (r : Collection) (slots join body : List ℕ) (R : After) (own part whole : List ℕ) → R ≡ collectStep r slots join body
+    → own ≡ ownOf (R .answer) (R .held .number) body → part ≡ joinedOf (R .answer) (R .held .number) (R .join) → whole ≡ R .join
     → _≡_ {A = LentAfter} (record { answer = R .answer; held = R .held; slots = R .slots; own = own; joined = part; join = whole }) (lentStep r slots join body)
 unfolding lentStep
 step-lent r slots join body R own part whole e f g h = rw (← e, f, g, h) refl

@@ -21,7 +21,8 @@ nowhere : (a : Answer) (number : ℕ) → OneOf (0 ∷ 1 ∷ 2 ∷ []) (tagOf th
 nowhere (Refused n) number h = refl
 nowhere Repeat number h = refl
 nowhere (Waiting k) number h = refl
-nowhere (Complete n) number h = absurd (⊎-elim (λ (e : _≡_ {A = ℕ} 3 0). omega arith) (λ g. ⊎-elim (λ (e : _≡_ {A = ℕ} 3 1). omega arith) (λ (e : _≡_ {A = ℕ} 3 2). omega arith) g) h)
+nowhere (Complete n) number h =
+    absurd (⊎-elim (λ (e : _≡_ {A = ℕ} 3 0). omega arith) (λ g. ⊎-elim (λ (e : _≡_ {A = ℕ} 3 1). omega arith) (λ (e : _≡_ {A = ℕ} 3 2). omega arith) g) h)
 
 -- in the body
 returns : tie.Need-returns

@@ -24,4 +24,5 @@ returns-2 c =
     c .read-table2 .ensures ∙ ap (readTable (a .table)) lent
 
 pub read-message-spec : {M : Type 1} → statement M
-read-message-spec = tie.close (tie.spec (λ c κs. search needs) (λ c κs. search needs) (λ c κs. search needs) returns (λ c κs. search needs) (λ c κs. search needs) returns-2)
+read-message-spec =
+    tie.close (tie.spec (λ c κs. search needs) (λ c κs. search needs) (λ c κs. search needs) returns (λ c κs. search needs) (λ c κs. search needs) returns-2)
