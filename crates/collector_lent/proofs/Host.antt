@@ -15,7 +15,8 @@ use Rattle.collector.specs.Step.{After}
 use Rattle.collector_demands.specs.Demand.{Lent, called, lentAfter, isComplete, completions, Cutting, Apart, Demand3}
 use Rattle.collector_demands.proofs.Demands.{demand-3}
 use Rattle.dsg_pieces.specs.Bodies.{collectedOf, collectedAs}
-use Rattle.collector_lent.specs.Host.{hostAfter, namedBy, isNamed, named, HostOnce}
+use Rattle.collector_lent.specs.Host.{hosts, keeps, hostAfter, namedBy, isNamed, named, HostOnce}
+use Rattle.collector_lent.proofs.Calls.{leftBy-same}
 use Rattle.collector_lent.proofs.Lent.{message-at, elsewhere}
 
 -- kinds 3 and 4 are said of a complete message only
@@ -39,9 +40,7 @@ named-message a of′ body message d q m = rw (← q) (go (eqb (a .held .number)
   go false e = (rw (d, e) refl, rw (d, e) (rw (d, e) at m))
 
 host-is : (s : Lent) (h : List (List ℕ)) → hostAfter s h ≡ lentAfter s h
-unfolding hostAfter lentAfter
-host-is s [] = refl
-host-is s (b ∷ h) = ap (λ (x : Lent). let a = called x b in record { held = a .held; slots = a .slots; join = a .join }) (host-is s h)
+host-is = leftBy-same (λ s b. keeps (hosts s b)) (λ s b. refl)
 
 named-are : (s : Lent) (h : List (List ℕ)) → named s h ≡ completions s h
 unfolding named completions

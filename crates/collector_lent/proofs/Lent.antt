@@ -19,7 +19,8 @@ use Rattle.collector_demands.specs.Last.{IsLast}
 use Rattle.collector_demands.proofs.Demands.{demand-3}
 use Rattle.collector_demands.proofs.Last.{only-there, complete-number}
 use Rattle.lending.specs.Lent.{lentStep}
-use Rattle.collector_lent.specs.Lent.{keptAfter, LentOnce}
+use Rattle.collector_lent.specs.Lent.{lends, keeps, keptAfter, LentOnce}
+use Rattle.collector_lent.proofs.Calls.{leftBy-same}
 
 -- ---- what the collector does there
 
@@ -65,9 +66,8 @@ no-part (waiting k) number body join e = (refl, refl)
 no-part (complete n) number body join e = absurd (omega arith)
 
 kept-is : (s : Lent) (h : List (List ℕ)) → keptAfter s h ≡ lentAfter s h
-unfolding keptAfter lentAfter lentStep
-kept-is s [] = refl
-kept-is s (b ∷ h) = ap (λ (x : Lent). let a = called x b in record { held = a .held; slots = a .slots; join = a .join }) (kept-is s h)
+unfolding lentStep
+kept-is = leftBy-same (λ s b. keeps (lends s b)) (λ s b. refl)
 
 parts : (s : Lent) (count : ℕ) (message : List ℕ) (pieces : List (List ℕ)) → Demand3 s count message pieces → LentOnce s count message pieces
 unfolding lentStep

@@ -1,6 +1,6 @@
 -- Host: what demand 3 says to a C host: a message in pieces through `collectAfter`, which is all that `dsg_collect` answers and leaves.
 --
---   hostAfter s h      the record and the buffers after the bodies of h, each call given back what the last one left
+--   hostAfter s h      the record and the buffers after the bodies of h
 --   hostTo s h b       what the call for b after h answers and leaves
 --   namedBy x body     the bytes that `start` and `length` of an answer name: of the body for kind 3, of the join buffer after the call for kind
 --                      4, none for another kind
@@ -21,15 +21,16 @@ use lib.Dec.{eqb}
 use Rattle.collector_demands.specs.Demand.{Lent, Arrived, Came}
 use Rattle.collector_demands.specs.Last.{IsLast}
 use Rattle.dsg_pieces.specs.Bodies.{CollectAfter, collectAfter}
+use Rattle.collector_lent.specs.Calls.{leftBy}
 
 abbrev pub hosts : Lent → List ℕ → CollectAfter
 hosts s b = collectAfter (s .held) (s .slots) (s .join) b
 
-unfoldable pub hostAfter : Lent → List (List ℕ) → Lent
-hostAfter s [] = s
-hostAfter s (b ∷ h) =
-    let a = hosts (hostAfter s h) b in
-    record { held = a .held; slots = a .slots; join = a .join }
+abbrev pub keeps : CollectAfter → Lent
+keeps a = record { held = a .held; slots = a .slots; join = a .join }
+
+abbrev pub hostAfter : Lent → List (List ℕ) → Lent
+hostAfter = leftBy (λ s b. keeps (hosts s b))
 
 abbrev pub hostTo : Lent → List (List ℕ) → List ℕ → CollectAfter
 hostTo s h b = hosts (hostAfter s h) b

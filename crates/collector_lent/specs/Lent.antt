@@ -1,6 +1,6 @@
 -- Lent: what demand 3 says of the message that is lent back: a message in pieces through `lentStep`.
 --
---   keptAfter s h      the record and the buffers after the bodies of h, each call given back what the last one left
+--   keptAfter s h      the record and the buffers after the bodies of h
 --   lentTo s h b       what the call for b after h answers, leaves and lends
 --   LentOnce s count message pieces
 --                      at the arrival of the last piece missing the part that is lent is the uncut message: of the body where it is the only
@@ -19,15 +19,16 @@ use Rattle.collector.specs.Answers.{complete}
 use Rattle.collector_demands.specs.Demand.{Lent, Arrived}
 use Rattle.collector_demands.specs.Last.{IsLast}
 use Rattle.lending.specs.Lent.{LentAfter, lentStep}
+use Rattle.collector_lent.specs.Calls.{leftBy}
 
 abbrev pub lends : Lent → List ℕ → LentAfter
 lends s b = lentStep (s .held) (s .slots) (s .join) b
 
-unfoldable pub keptAfter : Lent → List (List ℕ) → Lent
-keptAfter s [] = s
-keptAfter s (b ∷ h) =
-    let a = lends (keptAfter s h) b in
-    record { held = a .held; slots = a .slots; join = a .join }
+abbrev pub keeps : LentAfter → Lent
+keeps a = record { held = a .held; slots = a .slots; join = a .join }
+
+abbrev pub keptAfter : Lent → List (List ℕ) → Lent
+keptAfter = leftBy (λ s b. keeps (lends s b))
 
 abbrev pub lentTo : Lent → List (List ℕ) → List ℕ → LentAfter
 lentTo s h b = lends (keptAfter s h) b
