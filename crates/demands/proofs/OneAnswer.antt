@@ -1,8 +1,8 @@
 -- OneAnswer: the contract of every public function admits one answer only: two results that meet it on the same arguments show the
 -- same answer, and leave the same in everything that was lent to be written. Here: the entries that demand 2 names.
 --
--- One law, `only` of proofs/Contract.antt, and a line for each function. Of a result that is a lent part its contents are meant, and of an
--- answer of the collector what it says: `said-only` of crate collector_demands, proofs/Controls.antt, is that this is the answer; of a
+-- One law, `only` of proofs/Contract.antt, and a line for each function. Of a result that is a lent part its contents are meant, and where it
+-- stands for the parts of a message; of an answer of the collector what it says: `said-only` of crate collector_demands, proofs/Controls.antt, is that this is the answer; of a
 -- message's place its three numbers (`placed-only` of crate messages, proofs/Laws.antt).
 -- The functions of the lower crates are in OneAnswerParts and OneAnswerPieces, those that a C host calls in OneAnswerC. Not here: `main` of
 -- dcdlist, whose contract can say nothing of what is read or written (docs/CONTRACTS.md).
@@ -18,7 +18,7 @@ use Rattle.modem_step.specs.declared.Stepped.{Stepped}
 use Rattle.reader.proofs.read_table.Reads as read_table
 use Rattle.collection.proofs.empty_collection.Reads as empty_collection
 use Rattle.collector.proofs.collect.Reads as collect
-use Rattle.messages.specs.Place.{placed}
+use Rattle.messages.specs.Place.{placed, Part, part}
 use Rattle.messages.proofs.find_message.Reads as find_message
 use Rattle.messages.proofs.own_part.Reads as own_part
 use Rattle.messages.proofs.joined_part.Reads as joined_part
@@ -51,10 +51,10 @@ collect-one κs = only (demand2.collect-gives κs)
 pub find_message-one : (κs : Lfts 0) → One (λ x s. placed x) (find_message.Post κs)
 find_message-one κs = only (demand2.find_message-gives κs)
 
-pub own_part-one : (κs : Lfts 1) → One (λ x s. now x) (own_part.Post κs)
+pub own_part-one : (κs : Lfts 1) → One {L = Part} (λ x s. part (x .ptr) (now x)) (own_part.Post κs)
 own_part-one κs = only (demand2.own_part-gives κs)
 
-pub joined_part-one : (κs : Lfts 1) → One (λ x s. now x) (joined_part.Post κs)
+pub joined_part-one : (κs : Lfts 1) → One {L = Part} (λ x s. part (x .ptr) (now x)) (joined_part.Post κs)
 joined_part-one κs = only (demand2.joined_part-gives κs)
 
 pub collect_lent-one : (κs : Lfts 3) → One (demand2.LentSeen κs) (demand2.CollectLent κs)

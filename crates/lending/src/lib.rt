@@ -7,7 +7,8 @@
 // `collector::collect` writes.
 ghost use mathlib.Core.Path.{_≡_};
 ghost use Rattle.collector.specs.Answers.{said};
-ghost use Rattle.lending.specs.Lent.{LentAfter, lentStep};
+ghost use Rattle.messages.specs.Place.{part};
+ghost use Rattle.lending.specs.Lent.{LentAfter, LentAt, lentAt};
 use collection::Collection;
 use collector::Outcome;
 use messages::joined_part;
@@ -15,7 +16,7 @@ use messages::own_part;
 
 // The join buffer, shared for good.
 fn share<'j>(join: &'j mut [u8]) -> &'j [u8]
-    ensures { λ r. ⌜ now r ≡ now (join .entry) ⌝ }
+    ensures { λ r. ⌜ part (r .ptr) (now r) ≡ part (join .entry .ptr) (now (join .entry)) ⌝ }
 {
     &join[..]
 }
@@ -37,7 +38,7 @@ pub fn collect_lent<'b, 'j, 's>(
     join: &'j mut [u8],
     body: &'b [u8],
 ) -> Lent<'b, 'j>
-    ensures { λ r. ⌜ record { answer = said (r .outcome .answer); held = r .outcome .held; slots = now (slots .exit); own = now (r .own); joined = now (r .joined); join = now (r .join) } ≡ lentStep held (now (slots .entry)) (now (join .entry)) (now (body .entry)) ⌝ }
+    ensures { λ r. ⌜ record { after = record { answer = said (r .outcome .answer); held = r .outcome .held; slots = now (slots .exit); own = now (r .own); joined = now (r .joined); join = now (r .join) }; own = r .own .ptr; joined = r .joined .ptr; join = r .join .ptr } ≡ lentAt held (now (slots .entry)) (part (join .entry .ptr) (now (join .entry))) (part (body .entry .ptr) (now (body .entry))) ⌝ }
 {
     let outcome = collector::collect(held, slots, &mut *join, body);
     let own = own_part(outcome, body);

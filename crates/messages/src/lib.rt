@@ -5,9 +5,8 @@
 // and `joined_part` from the join buffer, as that rule has it. They take any outcome of the collector, any body and any join buffer: where
 // no message is complete, or it stands in the other of the two, nothing is lent. They write nothing and copy nothing.
 ghost use mathlib.Core.Path.{_≡_};
-ghost use lib.ListN.{take, drop};
-ghost use Rattle.collector.specs.Answers.{said, placeOf, ownOf, joinedOf};
-ghost use Rattle.messages.specs.Place.{placed};
+ghost use Rattle.collector.specs.Answers.{said, placeOf};
+ghost use Rattle.messages.specs.Place.{placed, part, frontOf, behindOf, ownPart, joinedPart};
 use collector::Answer;
 use collector::Outcome;
 
@@ -27,7 +26,7 @@ pub struct Place {
 
 // The first `n` bytes, or all where there are fewer.
 fn front<'a>(bytes: &'a [u8], n: usize) -> &'a [u8]
-    ensures { λ r. ⌜ now r ≡ take n (now (bytes .entry)) ⌝ }
+    ensures { λ r. ⌜ part (r .ptr) (now r) ≡ frontOf n (part (bytes .entry .ptr) (now (bytes .entry))) ⌝ }
 {
     if n <= bytes.len() {
         return &bytes[..n];
@@ -35,14 +34,15 @@ fn front<'a>(bytes: &'a [u8], n: usize) -> &'a [u8]
     bytes
 }
 
-// The bytes from the place `n` on, none where there are fewer.
+// The bytes from the place `n` on; none, at their end, where there are fewer.
 fn behind<'a>(bytes: &'a [u8], n: usize) -> &'a [u8]
-    ensures { λ r. ⌜ now r ≡ drop n (now (bytes .entry)) ⌝ }
+    ensures { λ r. ⌜ part (r .ptr) (now r) ≡ behindOf n (part (bytes .entry .ptr) (now (bytes .entry))) ⌝ }
 {
     if n <= bytes.len() {
         return &bytes[n..];
     }
-    &bytes[..0]
+    let end = bytes.len();
+    &bytes[end..]
 }
 
 // Where the message stands that an answer completes; `number` is that of the record after it.
@@ -74,7 +74,7 @@ pub fn find_message(answer: Answer, number: u8) -> Place
 
 // The part of the body that is lent with an outcome.
 pub fn own_part<'b>(outcome: Outcome, body: &'b [u8]) -> &'b [u8]
-    ensures { λ r. ⌜ now r ≡ ownOf (said (outcome .answer)) (outcome .held .number) (now (body .entry)) ⌝ }
+    ensures { λ r. ⌜ part (r .ptr) (now r) ≡ ownPart (said (outcome .answer)) (outcome .held .number) (part (body .entry .ptr) (now (body .entry))) ⌝ }
 {
     let number = outcome.held.number;
     let answer = outcome.answer;
@@ -87,7 +87,7 @@ pub fn own_part<'b>(outcome: Outcome, body: &'b [u8]) -> &'b [u8]
 
 // The part of the join buffer that is lent with an outcome.
 pub fn joined_part<'j>(outcome: Outcome, join: &'j [u8]) -> &'j [u8]
-    ensures { λ r. ⌜ now r ≡ joinedOf (said (outcome .answer)) (outcome .held .number) (now (join .entry)) ⌝ }
+    ensures { λ r. ⌜ part (r .ptr) (now r) ≡ joinedPart (said (outcome .answer)) (outcome .held .number) (part (join .entry .ptr) (now (join .entry))) ⌝ }
 {
     let number = outcome.held.number;
     let answer = outcome.answer;

@@ -3,7 +3,8 @@
 use mathlib.Core.Path.{ap, _∙_}
 use borrow.Author.Needs.{needs}
 use Rattle.reader.specs.Read.{readTable}
-use Rattle.messages.proofs.Laws.{lentOf-own, lentOf-joined}
+use Rattle.messages.specs.Place.{Part}
+use Rattle.messages.proofs.Laws.{ownPart-bytes, joinedPart-bytes, lentOf-own, lentOf-joined}
 use Rattle.receiver.proofs.read_message.Statement.{statement}
 use Rattle.receiver.proofs.read_message.Tie as tie
 
@@ -12,7 +13,8 @@ returns : tie.Need-returns
 returns c =
     let a = c .before .before .before .before .before .before .before .args in
     let found = c .before .before .before .before .find-message .ensures in
-    let lent = c .before .own-part .ensures ∙ lentOf-own _ _ found _ _ (c .before .before .if1 .taken) in
+    let own = ap (λ (x : Part). x .bytes) (c .before .own-part .ensures) ∙ ownPart-bytes _ _ _ in
+    let lent = own ∙ lentOf-own _ _ found _ _ (c .before .before .if1 .taken) in
     c .read-table .ensures ∙ ap (readTable (a .table)) lent
 
 -- from the join buffer
@@ -20,7 +22,8 @@ returns-2 : tie.Need-returns-2
 returns-2 c =
     let a = c .before .before .before .before .before .before .before .args in
     let found = c .before .before .before .before .find-message .ensures in
-    let lent = c .before .joined-part .ensures ∙ lentOf-joined _ _ found _ _ (c .before .before .if1 .left) in
+    let joined = ap (λ (x : Part). x .bytes) (c .before .joined-part .ensures) ∙ joinedPart-bytes _ _ _ in
+    let lent = joined ∙ lentOf-joined _ _ found _ _ (c .before .before .if1 .left) in
     c .read-table2 .ensures ∙ ap (readTable (a .table)) lent
 
 pub read-message-spec : {M : Type 1} → statement M

@@ -23,12 +23,13 @@ use denote.Triple.Walked.{says, ends-at}
 use denote.Signature.{namedLft}
 use denote.Struct.Laws as LL
 use Rattle.collector.specs.declared.Outcome.{Outcome}
+use Rattle.messages.specs.Place.{part}
 use Rattle.lending.specs.declared.Lent.{Lent}
 use Rattle.lending.proofs.Laws.{step-lent}
 use Rattle.lending.proofs.Lent as T
 use Rattle.lending.proofs.Lent.Laws as T′
 use Rattle.lending.proofs.collect_lent as top
-use Rattle.lending.proofs.collect_lent.Proof.Steps.{Of-outcome, Of-bytes, token, ownPart, joinedPart}
+use Rattle.lending.proofs.collect_lent.Proof.Steps.{Of-outcome, Of-bytes, token, partOf, ownPart, joinedPart}
 use Rattle.lending.proofs.collect_lent.Proof.Start.{Entry, stayed, lives, after, Done}
 use Rattle.lending.proofs.collect_lent.Proof.Callees.{here, Post}
 
@@ -54,14 +55,14 @@ module _ {M : Type 1} (𝓤 : URA M) (H : Heap 𝓤) (A : Atoms 𝓤) (W : Given
       ∷ ‵ (Of-outcome r) ∷ ‵ (Of-bytes (i .κb) u) ∷ ‵ (Of-bytes (i .κj) x) ∷ ‵ (Of-bytes (i .κj) y) ∷ []
 
   pub exits : (r : Outcome) (u x y : RefT (List ℕ)) (zs₀ zs : List ℕ) → Done i r zs₀ zs
-      → now u ≡ ownPart r (now (i .body)) → now x ≡ joinedPart r zs → now y ≡ zs → length zs₀ ≡ length (now (i .slots))
+      → partOf u ≡ ownPart r (partOf (i .body)) → partOf x ≡ joinedPart r (part (i .join .ptr) zs) → partOf y ≡ part (i .join .ptr) zs → length zs₀ ≡ length (now (i .slots))
       → ent 𝓤 (⋆ 𝓤 H A (left r u x y zs₀)) (Post 𝓤 H A mem run i (made-val i (made r u x y)))
   exits r u x y zs₀ zs e e-own e-joined e-join l =
       let v = made r u x y in
       qed W (left r u x y zs₀) ∵
       suffices ! _ (ends-at 𝓤 H A top.ended stayed (top.clauses 𝓤 H A mem run) W (here 𝓤 H A mem run i) (made-val i v) v
       (tt, (zs₀, (tt, (tt, tt)))) (tt, (l, (tt, (tt, tt))))) $
-      says ! (step-lent (i .held) (now (i .slots)) (now (i .join)) (now (i .body)) (after r zs₀ zs) (now u) (now x) (now y) e e-own e-joined e-join) $
+      says ! (step-lent (i .held) (now (i .slots)) (partOf (i .join)) (partOf (i .body)) (after r zs₀ zs) (partOf u) (partOf x) (partOf y) e e-own e-joined e-join) $
       move ! (1 ∷ []) $ split ! $ move ! (1 ∷ []) $ drop ! $ move ! (0 ∷ 2 ∷ []) $ join ! $ move ! (1 ∷ 0 ∷ []) $ join ! $ frame ! $
       -- [the last list; the outcome's; the two parts'; the join buffer's]
       nothing ! $ nothing ! $ nothing ! $ fjoin ! $ move ! (1 ∷ 0 ∷ []) $ fjoin ! $ move ! (1 ∷ 0 ∷ []) $ fjoin ! $ nothing ! $ fjoin ! $ frame ! $

@@ -37,7 +37,9 @@ use denote.Triple.Statement.{Contract, Triple}
 use denote.Triple.Call.{calls-at}
 use denote.Triple.Clauses.{closing, Lasts, lasts}
 use denote.Struct.Laws as LL
-use Rattle.collector.specs.Answers.{said, ownOf, joinedOf}
+use Rattle.collector.specs.Answers.{said}
+use Rattle.messages.specs.Place as parts
+use Rattle.messages.specs.Place.{part}
 use Rattle.collector.specs.declared.Outcome.{Outcome}
 use Rattle.collector.proofs.Outcome as O
 use Rattle.collector.proofs.Outcome.Laws as O′
@@ -56,12 +58,15 @@ Bytes κ = ShrSlice (named 0) κ u8
 abbrev pub Of-bytes : Lft → RefT (List ℕ) → Fml
 Of-bytes κ u = Bytes κ .own u (slice-vals u)
 
--- the parts that the two functions cut, of an outcome and a list
-abbrev pub ownPart : Outcome → List ℕ → List ℕ
-ownPart r l = ownOf (said (r .answer)) (r .held .number) l
+-- a slice as a part, and the parts that the two functions cut, of an outcome and a part
+abbrev pub partOf : RefT (List ℕ) → parts.Part
+partOf u = part (u .ptr) (now u)
 
-abbrev pub joinedPart : Outcome → List ℕ → List ℕ
-joinedPart r l = joinedOf (said (r .answer)) (r .held .number) l
+abbrev pub ownPart : Outcome → parts.Part → parts.Part
+ownPart r x = parts.ownPart (said (r .answer)) (r .held .number) x
+
+abbrev pub joinedPart : Outcome → parts.Part → parts.Part
+joinedPart r x = parts.joinedPart (said (r .answer)) (r .held .number) x
 
 -- a lifetime's token, with what ends a list of tokens
 abbrev pub token : {M : Type 1} {𝓤 : URA M} → Lft → Share → Item 𝓤
@@ -72,16 +77,16 @@ module _ {M : Type 1} (𝓤 : URA M) (H : Heap 𝓤) (A : Atoms 𝓤) where
   abbrev pub giving : (κ : Lft) (p : Share) (φ : RefT (List ℕ) → Type 0) {X : Type 0} (L : X → SProp 𝓤) → Val → Item 𝓤
   giving κ p φ {X} L w = later (some (λ (u : RefT (List ℕ)). (token κ p ⊛ ‵ (Bytes κ .own u (w ∷ []))) ⊛ raw (ex 𝓤 (λ (ws : X). sep 𝓤 (L ws) (fact 𝓤 (φ u))))))
 
-  abbrev pub Part : (Outcome → List ℕ → List ℕ) → Contract 𝓤
+  abbrev pub Part : (Outcome → parts.Part → parts.Part) → Contract 𝓤
   Part F = tripleOf 𝓤 H A own.signature (closing 𝓤 H A own.ended
-      (λ κs a. record { ghost = Unit {0}; requires = λ g. emp 𝓤; ensures = λ g u e. fact 𝓤 (now u ≡ F (a .0) (now (a .1 .0))) }))
+      (λ κs a. record { ghost = Unit {0}; requires = λ g. emp 𝓤; ensures = λ g u e. fact 𝓤 (partOf u ≡ F (a .0) (partOf (a .1 .0))) }))
 
   -- what such a function binds, at an outcome and a slice
-  abbrev pub to-part : (F : Outcome → List ℕ → List ℕ) (κ : Lft) (p : Share) (r : Outcome) (t : RefT (List ℕ)) → Part F .Ghost
+  abbrev pub to-part : (F : Outcome → parts.Part → parts.Part) (κ : Lft) (p : Share) (r : Outcome) (t : RefT (List ℕ)) → Part F .Ghost
   to-part F κ p r t = (((κ, tt), (p, tt), tt, (r, (t, tt)), (out-vals r, (slice-vals t, tt))), tt)
 
   -- and asks
-  goes-part : (F : Outcome → List ℕ → List ℕ) (W : Given 𝓤 H A) (κ : Lft) (p : Share) (r : Outcome) (t : RefT (List ℕ))
+  goes-part : (F : Outcome → parts.Part → parts.Part) (W : Given 𝓤 H A) (κ : Lft) (p : Share) (r : Outcome) (t : RefT (List ℕ))
       → ent 𝓤 (⋆ 𝓤 H A (token κ p ∷ ‵ (Of-outcome r) ∷ ‵ (Of-bytes κ t) ∷ [])) (Part F .pre (to-part F κ p r t))
   goes-part F W κ p r t =
       qed W (token κ p ∷ ‵ (Of-outcome r) ∷ ‵ (Of-bytes κ t) ∷ []) ∵
@@ -126,12 +131,12 @@ module _ {M : Type 1} {𝓤 : URA M} {H : Heap 𝓤} {A : Atoms 𝓤} {K : Type 
       use1 W (raw (fact 𝓤 (φ u))) (exE 𝓤 _ (λ ws. snd∗ 𝓤 (L ws) (fact 𝓤 (φ u)))) $ heard t (φ u) (λ e. split t $ move t (1 ∷ []) $
       tells-it t (Bytes κ) slice-vals (shr-slice-tells (named 0) κ u8) u w (k u e))))
 
-  pub calls-part : K → {f : Name} {xs : List Operand} → FmC 𝓤 H (W .laws) C → (F : Outcome → List ℕ → List ℕ) → Triple 𝓤 (C f) (Part 𝓤 H A F)
+  pub calls-part : K → {f : Name} {xs : List Operand} → FmC 𝓤 H (W .laws) C → (F : Outcome → parts.Part → parts.Part) → Triple 𝓤 (C f) (Part 𝓤 H A F)
       → (κ : Lft) (p : Share) (r : Outcome) (t : RefT (List ℕ))
       → Opds K W (raw (Part 𝓤 H A F .pre (to-part 𝓤 H A F κ p r t)) ∷ Γ) E xs (Part 𝓤 H A F .args (to-part 𝓤 H A F κ p r t))
-      → Behind K W Γ (λ w. lands C Λ E d w rest q) κ p (λ u. now u ≡ F r (now t))
+      → Behind K W Γ (λ w. lands C Λ E d w rest q) κ p (λ u. partOf u ≡ F r (partOf t))
       → Seq K W (token κ p ∷ ‵ (Of-outcome r) ∷ ‵ (Of-bytes κ t) ∷ Γ) (runs C Λ E (seq (call f xs d) rest) q)
   calls-part t fm F met κ p r s os k =
       use3 W (raw (Part 𝓤 H A F .pre (to-part 𝓤 H A F κ p r s))) (goes-part 𝓤 H A F W κ p r s) $
-      calls-giving t fm (Part 𝓤 H A F) met (to-part 𝓤 H A F κ p r s) κ p (λ u. now u ≡ F r (now s))
+      calls-giving t fm (Part 𝓤 H A F) met (to-part 𝓤 H A F κ p r s) κ p (λ u. partOf u ≡ F r (partOf s))
       (λ (ws : Lasts own.ended (κ, tt) (r, (s, tt))). sem 𝓤 H A (lasts own.ended (κ, tt) (r, (s, tt)) ws)) (λ w. id⊢ 𝓤 _) os k

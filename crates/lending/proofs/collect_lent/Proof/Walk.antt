@@ -31,12 +31,13 @@ use Rattle.collection.proofs.Collection as R
 use Rattle.collection.proofs.Collection.Laws as R′
 use Rattle.collector.proofs.Outcome as O
 use Rattle.collector.proofs.Outcome.Laws as O′
+use Rattle.messages.specs.Place.{part}
 use Rattle.lending.proofs.Lent as T
 use Rattle.lending.proofs.Lent.Laws as T′
 use Rattle.lending.proofs.Again.{lends-again, comes-back}
 use Rattle.lending.proofs.collect_lent as top
 use Rattle.lending.proofs.collect_lent.Code as code
-use Rattle.lending.proofs.collect_lent.Proof.Steps.{Bytes, out-vals, ownPart, joinedPart, twice, reads, gone, tells-it, calls-giving, calls-part}
+use Rattle.lending.proofs.collect_lent.Proof.Steps.{Bytes, out-vals, partOf, ownPart, joinedPart, twice, reads, gone, tells-it, calls-giving, calls-part}
 use Rattle.lending.proofs.collect_lent.Proof.Start.{Entry, val, lives, shares, args, held-val, vals, Done, rows, Of-lent, Of-kept, Of-join}
 use Rattle.lending.proofs.collect_lent.Proof.Callees.{Work, Share′, Known, Post, to-work, work-gives, work-ends, goes-work, to-share, share-lasts, goes-share}
 use Rattle.lending.proofs.collect_lent.Proof.Exit.{α, β, made, exits}
@@ -110,7 +111,7 @@ module _ {M : Type 1} (𝓤 : URA M) (H : Heap 𝓤) (A : Atoms 𝓤) (W : Given
       (from ! (stop !)) (init ! 7 refl (tt, (tt, (record { fits = room .0 }, tt)))) $
       let to = to-share 𝓤 H A mem run i join′ in
       use2 W (raw (Share′ 𝓤 H A mem run .pre to)) (goes-share 𝓤 H A mem run i W join′) $
-      calls-giving ! fm (Share′ 𝓤 H A mem run) (known .share) to (i .κj) (i .qj) (λ t. now t ≡ join′)
+      calls-giving ! fm (Share′ 𝓤 H A mem run) (known .share) to (i .κj) (i .qj) (λ t. partOf t ≡ part (i .join .ptr) join′)
       (share-lasts 𝓤 H A mem run i join′) (λ w′. id⊢ 𝓤 _) (reads ! 6 refl (no-more !)) (λ t e-shared is-shared.
       land ! (from ! (stop !)) (init ! 21 refl (shr-slice-lawful 𝓤 H A W (named 0) (i .κj) u8 .typed t _ is-shared .0)) $
       -- [the shared slice's; κj's and true; own's; κb's and true; the outcome's; κs's token; slots' last list; the locals from 7]: `joined_part`, with the
