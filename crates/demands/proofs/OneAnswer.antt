@@ -1,9 +1,9 @@
 -- OneAnswer: the contract of every public function admits one answer only: two results that meet it on the same arguments show the
 -- same answer, and leave the same in everything that was lent to be written. Here: the entries that demand 2 names.
 --
--- One law, `only` of proofs/Contract.antt, and a line for each function. Of a result that is a lent part its contents are meant, and where it
--- stands for the parts of a message; of an answer of the collector what it says: `said-only` of crate collector_demands, proofs/Controls.antt, is that this is the answer; of a
--- message's place its three numbers (`placed-only` of crate messages, proofs/Laws.antt).
+-- One law, `only` of proofs/Contract.antt, and a line for each function. Of a result that is a lent part its contents are meant, and of the
+-- parts of a message where they stand too; of an answer of the collector what it says: `said-only` of crate collector_demands,
+-- proofs/Controls.antt, is that this is the answer; of a message's place its three numbers (`placed-only` of crate messages, proofs/Laws.antt).
 -- The functions of the lower crates are in OneAnswerParts and OneAnswerPieces, those that a C host calls in OneAnswerC. Not here: `main` of
 -- dcdlist, whose contract can say nothing of what is read or written (docs/CONTRACTS.md).
 -- Trusts: nothing.

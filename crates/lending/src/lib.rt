@@ -8,7 +8,7 @@
 ghost use mathlib.Core.Path.{_≡_};
 ghost use Rattle.collector.specs.Answers.{said};
 ghost use Rattle.messages.specs.Place.{part};
-ghost use Rattle.lending.specs.Lent.{LentAfter, LentAt, lentAt};
+ghost use Rattle.lending.specs.Lent.{lentAt};
 use collection::Collection;
 use collector::Outcome;
 use messages::joined_part;
