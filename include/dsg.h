@@ -248,7 +248,8 @@ struct dsg_collected {
  * Written: the record; of the slots, the bytes of the piece; of the join buffer, the bytes of a message that came in
  *   more pieces than one, at its start. Pass the same record and the same buffers, untouched, each time; empty the record
  *   (dsg_empty_collection) on every entry of the modem into Scanning.
- * A message is complete once, at its last missing piece; a further copy of a piece is a repeat. In the join buffer it stays
+ * Complete: start and length name the message's bytes, of the body (kind 3) or of the join buffer as it is after the call (4).
+ *   A message is complete once, at its last missing piece; a further copy of a piece is a repeat. In the join buffer it stays
  *   until another message of more pieces than one is complete.
  * Refused (kind 0): all that was lent holds what it held.
  * Definition: collector/specs/Step collectStep; dsg_pieces/specs/Bodies collectedOf. */
@@ -283,8 +284,10 @@ struct dsg_received {
 };
 
 /* Takes one body and, where it completes a message, reads that: dsg_collect and then dsg_read.
- * Lent, written: as by these two. A refused body changes nothing; a refused message leaves the table as it was, and the
- *   collection and the buffers with the pieces of that message, so that a repeat is a repeat.
+ * Lent, written: as by these two. A refused body changes nothing. Whatever is answered, the record and both buffers are
+ *   exactly those that dsg_collect leaves for this body. So where a message is complete and refused (kind 4) its pieces
+ *   stay collected, and a repeat is a repeat; the table holds what it held, and number and offset are those that dsg_read
+ *   gives for that message.
  * Definition: receiver/specs/Receive receiveStep; dsg_pieces/specs/Bodies receivedOf. */
 struct dsg_received *dsg_receive(struct dsg_received *answer, struct dsg_collection *held, struct dsg_table *table,
                                  uint8_t *slots, size_t slots_length, uint8_t *join, size_t join_length,

@@ -7,6 +7,7 @@
 -- Came: the run of a cut message's bodies is the pieces that came.
 -- Once: a cut message completes once, over the runs.
 -- Demands: demand 2 from a record with nothing collected; demand 3 from any lent record.
+-- Last: Complete is reported at the arrival of the last piece missing, and there only.
 -- Bench: the starred example; that demand 3's hypotheses can be met, and that Apart is needed.
 -- Controls: one answer only; wrong collectors refuted.
 pub mod Missing
@@ -18,5 +19,6 @@ pub mod Kept
 pub mod Came
 pub mod Once
 pub mod Demands
+pub mod Last
 pub mod Bench
 pub mod Controls

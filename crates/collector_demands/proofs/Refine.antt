@@ -3,6 +3,7 @@
 --   Rep run r slots      the record and the slot buffer have the run, in the form that the proofs use
 --   step                 from a record that has the run of h, a body gives `replyOf h` and a record that has the run of b ∷ h
 --   rep-held             such a record holds the run in the words of specs/Runs.antt
+--   finished-held        what is finished holds the record that it was given
 -- Trusts: nothing.
 use Prim.Native.Nat.{ℕ, _+_, _*_, _-_, _≤_}
 use mathlib.Core.Path.{_≡_, refl, sym, ap, _∙_}
@@ -178,6 +179,9 @@ module _ (b : List ℕ) (fit : Fits b) (join : List ℕ) where
   any-goal run rr ss (busy x xs r slots s c n w) = busy-goal x xs r slots s c n w
 
 -- ---- one step
+
+pub finished-held : (next : Collection) (slots join : List ℕ) (len : ℕ) → finished next slots join len .held ≡ next
+finished-held next slots join len = kept next slots join len .0
 
 -- with buffers that are long enough the body's own tests decide
 pub refusalOf-long : (slots join : ℕ) (b : List ℕ) → 24000 ≤ slots → 24000 ≤ join → refusalOf slots join b ≡ bodyRefusal b

@@ -2,7 +2,7 @@
 -- messages and listings.
 --
 --   collectStep-refused    a body: 1 to 5; the record and both buffers are as they were
---   lentStep-refused       the same with the message lent as a part: no part is lent, and the rest is the whole join buffer
+--   lentStep-refused       the same with the message lent as a part: no part is lent, and the join buffer comes back whole
 --   headAt-refused         the head of an element: 6 to 8
 --   testedAt-refused       an element with all that stands in it: 6 to 13, at a byte of the message
 --   readTable-refused      a message: 3 at 0, or 6 to 15 at a byte of the message; the table is the given one
@@ -22,7 +22,7 @@ use borrow.Author.Tests.{eqb-false}
 use lib.ListN.{length, getD, drop}
 use lib.Dec.{eqb, ltb}
 use Rattle.wire.specs.Bytes.{pasted}
-use Rattle.collector.specs.Answers.{refused, again, waiting, complete, lentOf}
+use Rattle.collector.specs.Answers.{refused, again, waiting, complete, ownOf, joinedOf}
 use Rattle.held.specs.Held.{emptySlots}
 use Rattle.joining.specs.Pieces.{joined}
 use Rattle.body_tests.specs.Refusals.{numberOf, slotOf, pieceOf, bodyRefusal, refusalOf}
@@ -104,18 +104,12 @@ collectStep-refused r slots join body n = go (eqb number 0) number refl (refusal
       (ap (λ k. after (refused k) r slots join) same, omega arith, omega arith)
 
 -- a refused body lends no part, whatever the number of the record
-lent-none : (b : Bool) (n number : ℕ) (body join : List ℕ) → (cond b (lentOf (refused n) number body []) [] ≡ []) × (cond b [] (lentOf (refused n) number [] join) ≡ [])
-unfolding lentOf
-lent-none true n number body join = (refl, refl)
-lent-none false n number body join = (refl, refl)
-
 pub lentStep-refused : (r : Collection) (slots join body : List ℕ) (n : ℕ) → lentStep r slots join body .answer ≡ refused n
-    → (lentStep r slots join body ≡ record { answer = refused n; held = r; slots = slots; own = []; joined = []; rest = join }) × (1 ≤ n) × (n ≤ 5)
-unfolding lentStep
+    → (lentStep r slots join body ≡ record { answer = refused n; held = r; slots = slots; own = []; joined = []; join = join }) × (1 ≤ n) × (n ≤ 5)
+unfolding lentStep ownOf joinedOf
 lentStep-refused r slots join body n e =
     let c = collectStep-refused r slots join body n e in
-    let none = lent-none (eqb (r .number) 1) n (r .number) body join in
-    (rw (c .0, none .0, none .1) refl, c .1, c .2)
+    (rw (c .0) refl, c .1, c .2)
 
 -- ---- the head of an element
 

@@ -3,7 +3,8 @@
 --
 --   collectAfter-refused   `dsg_collect`, kind 0: 1 to 5; the record and both buffers are as they were
 --   receiveAfter-refused   `dsg_receive`, kind 0: the same, and the table
---   receiveAfter-message   `dsg_receive`, kind 4: 3 at 0, or 6 to 15; the table is as it was
+--   receiveAfter-message   `dsg_receive`, kind 4: the number and the offset that reading the message gives, 3 at 0, or 6 to 15; the table is as it was
+--   receiveAfter-kept      `dsg_receive`, any kind: the record and both buffers are exactly those that `dsg_collect` leaves
 --   readStepped-refused    `dsg_read`, a number that is not 0: 3 at 0, or 6 to 15; the table is as it was
 --   listingAs-refused      `dsg_list_table` and `dsg_list_body`, a number that is not 0: 100, our own; the buffer is as it was
 --   choiceFor-refused      `dsg_choose`, a number that is not 0: 17
@@ -19,7 +20,7 @@ use mathlib.Core.Logic.{_⊎_}
 use native.Mathlib.Omega.{arith}
 use lib.ListN.{length}
 use lib.Dec.{eqb}
-use Rattle.collector.specs.Answers.{Said, refused, again, waiting, complete}
+use Rattle.collector.specs.Answers.{Said, refused, again, waiting, complete, Place, inBody, placeOf}
 use Rattle.collector.specs.Step.{After, collectStep}
 use Rattle.collection.specs.declared.Collection.{Collection}
 use Rattle.table.specs.declared.Table.{Table}
@@ -39,19 +40,19 @@ use Rattle.payloads.specs.declared.Verdict.the-variants as verdict
 use Rattle.tunnel.specs.Judge.{verdictOf}
 use Rattle.tunnel_parts.specs.Prepared.{preparedVerdict}
 use Rattle.modem_record.specs.declared.Modem.{Modem}
-use Rattle.dsg_pieces.specs.Bodies.{completeOf, collectedOf, CollectAfter, collectAfter, receivedOf, ReceiveAfter, receiveAfter}
+use Rattle.dsg_pieces.specs.Bodies.{completeAt, collectedOf, CollectAfter, collectAfter, receivedOf, ReceiveAfter, receiveAfter}
 use Rattle.dsg_tables.specs.Tables.{readStepped, listedAs, listingAs}
 use Rattle.dsg_frames.specs.Frames.{clientOf, ucidOf, choiceFor, verdictAs, verdictFor}
 use Rattle.dsg_events.specs.Events.{eventStepped}
 use Rattle.demands.proofs.Demand1.{collectStep-refused, readTable-refused, listing-refused}
-use Rattle.demands.proofs.Demand1Receive.{receiveStep-refused, receiveStep-message, messageAfter}
+use Rattle.demands.proofs.Demand1Receive.{receiveStep-refused, receiveStep-message, receiveStep-kept, messageAfter}
 use Rattle.demands.proofs.Demand1Frames.{choiceOf-refused, verdictOf-refused, preparedVerdict-refused, numberedStep-refused}
 
 -- ---- bodies
 
-complete-kind : (n number : ℕ) → completeOf n number .kind ≡ 0 → ⊥
-complete-kind n number = go (eqb number 1) where
-  go : (b : Bool) → cond b (completeOf n 1) (completeOf n 2) .kind ≡ 0 → ⊥
+complete-kind : (p : Place) → completeAt p .kind ≡ 0 → ⊥
+complete-kind p = go (eqb (p .source) inBody) where
+  go : (b : Bool) → _≡_ {A = ℕ} (cond b 3 4) 0 → ⊥
   go true e = omega arith
   go false e = omega arith
 
@@ -60,7 +61,7 @@ refused-kind : (s : Said) (number : ℕ) → collectedOf s number .kind ≡ 0 �
 refused-kind (refused n) number e = refl
 refused-kind again number e = absurd (omega arith)
 refused-kind (waiting k) number e = absurd (omega arith)
-refused-kind (complete n) number e = absurd (complete-kind n number e)
+refused-kind (complete n) number e = absurd (complete-kind (placeOf (complete n) number) e)
 
 pub collectAfter-refused : (r : Collection) (slots join body : List ℕ) → (let x = collectAfter r slots join body in x .answer .kind ≡ 0
     → (x .held ≡ r) × (x .slots ≡ slots) × (x .join ≡ join) × (1 ≤ x .answer .number) × (x .answer .number ≤ 5))
@@ -89,12 +90,17 @@ receiveAfter-refused r t slots join body e =
     let c = receiveStep-refused r t slots join body _ (body-kind (receiveStep r t slots join body .report) e) in
     (ap (λ (s : Had). s .held) (c .0), ap (λ (s : Had). s .table) (c .0), ap (λ (s : Had). s .slots) (c .0), ap (λ (s : Had). s .join) (c .0), c .1, c .2)
 
-pub receiveAfter-message : (r : Collection) (t : Table) (slots join body : List ℕ) → (let x = receiveAfter r t slots join body in x .answer .kind ≡ 4
-    → (x .table ≡ t) × (((x .answer .number ≡ 3) × (x .answer .offset ≡ 0))
-    ⊎ ((6 ≤ x .answer .number) × (x .answer .number ≤ 15) × (x .answer .offset < length (messageAfter (collectStep r slots join body) body)))))
+pub receiveAfter-message : (r : Collection) (t : Table) (slots join body : List ℕ) → (let x = receiveAfter r t slots join body in
+    let message = messageAfter (collectStep r slots join body) body in
+    x .answer .kind ≡ 4 → (x .table ≡ t) × (readTable t message .verdict ≡ reading.Refused (x .answer .number) (x .answer .offset))
+    × (((x .answer .number ≡ 3) × (x .answer .offset ≡ 0)) ⊎ ((6 ≤ x .answer .number) × (x .answer .number ≤ 15) × (x .answer .offset < length message))))
 receiveAfter-message r t slots join body e =
     let c = receiveStep-message r t slots join body _ _ (message-kind (receiveStep r t slots join body .report) e) in
-    (ap (λ (s : Had). s .table) (c .0), c .1)
+    (ap (λ (s : Had). s .table) (c .0), c .1, c .2)
+
+pub receiveAfter-kept : (r : Collection) (t : Table) (slots join body : List ℕ)
+    → (let x = receiveAfter r t slots join body in let y = collectAfter r slots join body in (x .held ≡ y .held) × (x .slots ≡ y .slots) × (x .join ≡ y .join))
+receiveAfter-kept = receiveStep-kept
 
 -- ---- tables
 

@@ -1,8 +1,10 @@
 -- Demand1Receive: the first demand of one body all the way (`receive`): what a refusal leaves, and its numbers.
 --
 --   receiveStep-refused    a refused body: 1 to 5; the record, the table and both buffers are as they were
---   receiveStep-message    a refused message: 3 at 0, or 6 to 15 at a byte of the message; the table is as it was, and the record and the
---                          buffers are those of the body, which the collector accepted (docs/DECISIONS.md, D-030)
+--   receiveStep-message    a refused message: the number and the offset that reading it gives, 3 at 0, or 6 to 15 at a byte of the message; the
+--                          table is as it was, and the record and the buffers are those of the body, which the collector accepted
+--                          (docs/DECISIONS.md, D-061)
+--   receiveStep-kept       whatever is reported, the record and both buffers are exactly `collectStep`'s
 --
 -- Trusts: nothing.
 use Prim.Native.Nat.{ℕ, _≤_, _<_}
@@ -60,10 +62,16 @@ messageAfter a body = lentOf (a .answer) (a .held .number) body (a .join)
 
 pub receiveStep-message : (r : Collection) (t : Table) (slots join body : List ℕ) (n off : ℕ) → receiveStep r t slots join body .report ≡ told.messageRefused n off
     → (let a = collectStep r slots join body in receiveStep r t slots join body ≡ record { report = told.messageRefused n off; held = a .held; table = t; slots = a .slots; join = a .join })
+    × (readTable t (messageAfter (collectStep r slots join body) body) .verdict ≡ reading.Refused n off)
     × (((n ≡ 3) × (off ≡ 0)) ⊎ ((6 ≤ n) × (n ≤ 15) × (off < length (messageAfter (collectStep r slots join body) body))))
 unfolding receiveStep
 receiveStep-message r t slots join body n off e =
     let a = collectStep r slots join body in
     let m = taken-message (a .answer) t (messageAfter a body) n off e in
     let d = readTable-refused t (messageAfter a body) n off (m .0) in
-    (rw (e, m .1, d .0) refl, d .1)
+    (rw (e, m .1, d .0) refl, m .0, d .1)
+
+pub receiveStep-kept : (r : Collection) (t : Table) (slots join body : List ℕ)
+    → (let x = receiveStep r t slots join body in let a = collectStep r slots join body in (x .held ≡ a .held) × (x .slots ≡ a .slots) × (x .join ≡ a .join))
+unfolding receiveStep
+receiveStep-kept r t slots join body = (refl, refl, refl)

@@ -17,7 +17,8 @@ use Rattle.choice.proofs.choose_rule.Reads as choose_rule
 use Rattle.choice.proofs.choose_rule.Statement as choose_rule′
 use Rattle.choice.proofs.choose_rule.Met as choose_rule″
 use Rattle.tunnel.specs.Judge.{verdictOf}
-use Rattle.payloads.specs.Payload.{payloadRange, Part, partOver}
+use Rattle.wire.specs.Parts.{Part, part}
+use Rattle.payloads.specs.Payload.{payloadRange, partOver}
 use Rattle.tunnel_parts.specs.Prepared.{lentTunnel, preparedVerdict}
 use Rattle.preparing.specs.Preparing.{preparedTunnel}
 use Rattle.tunnel.proofs.judge_frame.Reads as judge_frame
@@ -76,7 +77,7 @@ judge_frame-gives κs a x s h = judged-only _ _ h
 pub payload_range-gives : (κs : Lfts 0) → Gives answer (payload_range.Post κs) (λ a. payloadRange (a .0) (a .1 .0))
 payload_range-gives κs a x s h = h
 
-pub payload-gives : (κs : Lfts 1) → Gives {L = Part} (λ x s. record { at = x .ptr; bytes = now x }) (payload.Post κs)
+pub payload-gives : (κs : Lfts 1) → Gives {L = Part} (λ x s. part (x .ptr) (now x)) (payload.Post κs)
     (λ a. partOver (payloadRange (a .0) (length (now (a .1 .0)))) (a .1 .0 .ptr) (now (a .1 .0)))
 payload-gives κs a x s h = h
 

@@ -3,6 +3,11 @@
 --
 --   EndToEnd     the collector's part (crate collector_demands, specs/Demand.antt: silent, once, last), and what reading gives at completion
 --   demand-3     it holds from any lent record that holds nothing, or a collection under another count or number, with buffers long enough
+--   demand-3-there      Complete is reported at a position if and only if it is the arrival of the last piece missing
+--   demand-3-lent       the same over what is lent (`lentStep`): there the part of the body or of the join buffer is the uncut message; elsewhere
+--                       both parts are empty
+--   demand-3-seen       the same as a C host sees it (`collectAfter`, of `dsg_collect`): kind 3 or 4 is answered once, there, and `start` and
+--                       `length` name the uncut message, in the body (3) or in the join buffer after the call (4)
 --   demand-3-received   the same of `receiveStep`: read once, with the report and the table of the uncut message
 --   uncut-short  such a message has at most 23,952 bytes, so reading does not refuse it for its length
 --
@@ -17,6 +22,12 @@ use Rattle.reader.specs.Read.{readTable}
 use Rattle.collector_demands.specs.Runs.{Reply}
 use Rattle.collector_demands.specs.Demand as collected
 use Rattle.collector_demands.specs.Demand.{Lent, replyTo, Cutting, bodyOf, Arrived, Came, Apart}
+use Rattle.collector_demands.specs.Last.{OnlyThere}
+use Rattle.collector_demands.proofs.Last.{only-there}
+use Rattle.collector_lent.specs.Lent.{LentOnce}
+use Rattle.collector_lent.specs.Host.{HostOnce}
+use Rattle.collector_lent.proofs.Lent.{demand-3-parts}
+use Rattle.collector_lent.proofs.Host.{demand-3-host}
 use Rattle.receiver_demands.specs.EndToEnd.{Kept, ReadOnce}
 use Rattle.receiver_demands.proofs.Demands.{demand-3-read}
 use Rattle.collector_demands.proofs.Kept.{length-cut}
@@ -34,6 +45,20 @@ pub demand-3 : (s : Lent) → 24000 ≤ length (s .slots) → 24000 ≤ length (
 demand-3 s room space count message pieces cut apart =
     let d = collected-proved.demand-3 s room space count message pieces cut apart in
     record { completed = d; read = λ t k l missing others given. ap (λ (r : Reply). readTable given (r .lent)) (d .last t k l missing others) }
+
+pub demand-3-there : (s : Lent) → 24000 ≤ length (s .slots) → 24000 ≤ length (s .join) → (count : ℕ) (message : List ℕ) (pieces : List (List ℕ)) → Cutting message pieces
+    → Apart (s .held) count (length pieces) → OnlyThere s count pieces
+demand-3-there s room space count message pieces cut apart =
+    only-there s count message pieces (collected-proved.demand-3 s room space count message pieces cut apart)
+
+-- over what is lent, and over what a C host is told: crate collector_lent
+pub demand-3-lent : (s : Lent) → 24000 ≤ length (s .slots) → 24000 ≤ length (s .join) → (count : ℕ) (message : List ℕ) (pieces : List (List ℕ)) → Cutting message pieces
+    → Apart (s .held) count (length pieces) → LentOnce s count message pieces
+demand-3-lent = demand-3-parts
+
+pub demand-3-seen : (s : Lent) → 24000 ≤ length (s .slots) → 24000 ≤ length (s .join) → (count : ℕ) (message : List ℕ) (pieces : List (List ℕ)) → Cutting message pieces
+    → Apart (s .held) count (length pieces) → HostOnce s count message pieces
+demand-3-seen = demand-3-host
 
 pub uncut-short : (message : List ℕ) (pieces : List (List ℕ)) → Cutting message pieces → length message ≤ 23952
 uncut-short = length-cut

@@ -2,7 +2,7 @@
 -- Parts, PartsPieces: the contracts of the lower crates.      Demand2, Demand2Frames: those of the entries that demand 2 names.
 -- Exported: those of the C interface.
 -- Demand1: what a refusal leaves, and its numbers; with Demand1Receive, Demand1Frames and, as a C host sees it, Demand1C.
--- Demand3: a cut message completes once and is read as the uncut one.
+-- Demand3: a cut message completes once, at its last missing piece; what is lent, named to a C host and read there is the uncut one.
 -- OneAnswer, OneAnswerParts, OneAnswerPieces, OneAnswerC: every contract admits one answer.      Values: both, of the functions under the C interface.
 -- Lendable: demand 2 for every record that a call can be lent.
 -- Starred: the starred examples, one list under one theorem.      Listed: the example of dcdlist.

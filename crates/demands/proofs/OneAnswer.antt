@@ -1,8 +1,9 @@
 -- OneAnswer: the contract of every public function admits one answer only: two results that meet it on the same arguments show the
 -- same answer, and leave the same in everything that was lent to be written. Here: the entries that demand 2 names.
 --
--- One law, `only` of proofs/Contract.antt, and a line for each function. Of a result that is a lent part its contents are meant (of the
--- payload also where it stands), and of an answer of the collector what it says: `said-only` of crate collector_demands, proofs/Controls.antt, is that this is the answer.
+-- One law, `only` of proofs/Contract.antt, and a line for each function. Of a result that is a lent part its contents are meant and where it
+-- stands; of an answer of the collector what it says: `said-only` of crate collector_demands, proofs/Controls.antt, is that this is the
+-- answer; of a message's place its three numbers (`placed-only` of crate messages, proofs/Laws.antt).
 -- The functions of the lower crates are in OneAnswerParts and OneAnswerPieces, those that a C host calls in OneAnswerC. Not here: `main` of
 -- dcdlist, whose contract can say nothing of what is read or written (docs/CONTRACTS.md).
 -- Trusts: nothing.
@@ -17,12 +18,15 @@ use Rattle.modem_step.specs.declared.Stepped.{Stepped}
 use Rattle.reader.proofs.read_table.Reads as read_table
 use Rattle.collection.proofs.empty_collection.Reads as empty_collection
 use Rattle.collector.proofs.collect.Reads as collect
-use Rattle.messages.proofs.message.Reads as message
+use Rattle.wire.specs.Parts.{Part, part}
+use Rattle.messages.specs.Place.{placed}
+use Rattle.messages.proofs.find_message.Reads as find_message
+use Rattle.messages.proofs.own_part.Reads as own_part
+use Rattle.messages.proofs.joined_part.Reads as joined_part
 use Rattle.order.proofs.is_better.Reads as is_better
 use Rattle.choice.proofs.rule_at.Reads as choice_rule_at
 use Rattle.choice.proofs.choose_rule.Reads as choose_rule
 use Rattle.tunnel.proofs.judge_frame.Reads as judge_frame
-use Rattle.payloads.specs.Payload.{Part}
 use Rattle.payloads.proofs.payload_range.Reads as payload_range
 use Rattle.payloads.proofs.payload.Reads as payload
 use Rattle.preparing.proofs.prepare_tunnel.Reads as prepare_tunnel
@@ -46,8 +50,14 @@ empty_collection-one κs = only (demand2.empty_collection-gives κs)
 pub collect-one : (κs : Lfts 3) → One {L = After} (λ x s. record { answer = said (x .answer); held = x .held; slots = now (s .1 .0); join = now (s .1 .1 .0) }) (collect.Post κs)
 collect-one κs = only (demand2.collect-gives κs)
 
-pub message-one : (κs : Lfts 1) → One (λ x s. now x) (message.Post κs)
-message-one κs = only (demand2.message-gives κs)
+pub find_message-one : (κs : Lfts 0) → One (λ x s. placed x) (find_message.Post κs)
+find_message-one κs = only (demand2.find_message-gives κs)
+
+pub own_part-one : (κs : Lfts 1) → One {L = Part} (λ x s. part (x .ptr) (now x)) (own_part.Post κs)
+own_part-one κs = only (demand2.own_part-gives κs)
+
+pub joined_part-one : (κs : Lfts 1) → One {L = Part} (λ x s. part (x .ptr) (now x)) (joined_part.Post κs)
+joined_part-one κs = only (demand2.joined_part-gives κs)
 
 pub collect_lent-one : (κs : Lfts 3) → One (demand2.LentSeen κs) (demand2.CollectLent κs)
 collect_lent-one κs = only (demand2.collect_lent-gives κs)
@@ -81,7 +91,7 @@ judge_frame-one κs = only (frames.judge_frame-gives κs)
 pub payload_range-one : (κs : Lfts 0) → One answer (payload_range.Post κs)
 payload_range-one κs = only (frames.payload_range-gives κs)
 
-pub payload-one : (κs : Lfts 1) → One {L = Part} (λ x s. record { at = x .ptr; bytes = now x }) (payload.Post κs)
+pub payload-one : (κs : Lfts 1) → One {L = Part} (λ x s. part (x .ptr) (now x)) (payload.Post κs)
 payload-one κs = only (frames.payload-gives κs)
 
 -- ---- preparing, prepared, tunnel_parts

@@ -13,7 +13,7 @@ use Prim.Native.Nat.{ℕ}
 use mathlib.Core.Bool.{cond}
 use mathlib.Core.List.{List}
 use lib.Dec.{eqb}
-use Rattle.collector.specs.Answers.{Said, refused, again, waiting, complete}
+use Rattle.collector.specs.Answers.{Said, refused, again, waiting, complete, Place, inBody, placeOf}
 use Rattle.collector.specs.Step.{After, collectStep}
 use Rattle.collection.specs.declared.Collection.{Collection}
 use Rattle.table.specs.declared.Table.{Table}
@@ -22,10 +22,12 @@ use Rattle.receiver.specs.Receive.{Told, Had, receiveStep}
 use Rattle.dsg_pieces.specs.declared.Collected.{Collected}
 use Rattle.dsg_pieces.specs.declared.Received.{Received}
 
--- the message of a number of 1 is the body from byte 3, any other stands at the start of the join buffer
+-- a message that is complete, by where it stands
+abbrev pub completeAt : Place → Collected
+completeAt p = record { kind = cond (eqb (p .source) inBody) 3 4; number = 0; empty = 0; start = p .start; length = p .length }
+
 abbrev pub completeOf : ℕ → ℕ → Collected
-completeOf n number =
-    cond (eqb number 1) (record { kind = 3; number = 0; empty = 0; start = 3; length = n }) (record { kind = 4; number = 0; empty = 0; start = 0; length = n })
+completeOf n number = completeAt (placeOf (complete n) number)
 
 abbrev pub collectedOf : Said → ℕ → Collected
 collectedOf (refused n) number = record { kind = 0; number = n; empty = 0; start = 0; length = 0 }

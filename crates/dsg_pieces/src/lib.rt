@@ -4,10 +4,12 @@
 // receiver answer; an enum cannot cross to C, so each answer is a struct of numbers, of which specs/ says what they mean.
 ghost use mathlib.Core.Path.{_≡_};
 ghost use Rattle.collector.specs.Answers.{said};
+ghost use Rattle.messages.specs.Place.{placed};
 ghost use Rattle.receiver.specs.Receive.{told};
-ghost use Rattle.dsg_pieces.specs.Bodies.{completeOf, collectedOf, collectAfter, receivedOf, receiveAfter};
+ghost use Rattle.dsg_pieces.specs.Bodies.{completeAt, collectedOf, collectAfter, receivedOf, receiveAfter};
 use collection::Collection;
 use collector::Answer;
+use messages::Place;
 use receiver::Report;
 use table::Table;
 
@@ -71,29 +73,29 @@ fn collected_from(answer: Answer, number: u8) -> Collected
             start: 0,
             length: 0,
         },
-        Answer::Complete(n) => complete_from(n, number),
+        Answer::Complete(_) => complete_from(messages::find_message(answer, number)),
     }
 }
 
-// The numbers of a message that is complete.
-fn complete_from(length: usize, number: u8) -> Collected
-    ensures { λ r. ⌜ r ≡ completeOf length number ⌝ }
+// The numbers of a message that is complete, by where it stands.
+fn complete_from(place: Place) -> Collected
+    ensures { λ r. ⌜ r ≡ completeAt (placed place) ⌝ }
 {
-    if number == 1 {
+    if place.source == messages::IN_BODY {
         Collected {
             kind: 3,
             number: 0,
             empty: 0,
-            start: 3,
-            length,
+            start: place.start,
+            length: place.length,
         }
     } else {
         Collected {
             kind: 4,
             number: 0,
             empty: 0,
-            start: 0,
-            length,
+            start: place.start,
+            length: place.length,
         }
     }
 }

@@ -1,4 +1,4 @@
--- Laws: the two parts that a message is lent from.
+-- Laws: the step with the message lent.
 -- Again: a slice that is lent again for a call and comes back.
 pub mod Laws
 pub mod Again

@@ -2,7 +2,7 @@
 --
 --   payloadRange v n     where it begins and where it ends in a frame of n bytes: from byte 14 on with Forward, else nowhere
 --   bytesOver r frame    the bytes of a frame over a range
---   Part, partOver r at frame   the part over a range of a frame that stands at `at`: where it stands itself, and its bytes
+--   partOver r at frame  the part over a range of a frame that stands at `at`: where it stands itself, and its bytes
 --   payloadOf v frame    the bytes that are lent back
 --
 -- Tested by: `lent` in proofs/Bench.antt of crate tunnel; random tables and frames against the other program.
@@ -12,6 +12,7 @@ use mathlib.Core.Bool.{cond}
 use mathlib.Core.List.{List}
 use lib.ListN.{length, take, drop}
 use lib.Dec.{ltb}
+use Rattle.wire.specs.Parts.{Part, part}
 use Rattle.payloads.specs.declared.Range.{Range}
 use Rattle.payloads.specs.declared.Verdict.{Verdict}
 use Rattle.payloads.specs.declared.Verdict.the-variants.{Refused, Other, Forward, Filtered}
@@ -29,14 +30,9 @@ payloadRange Filtered n = nowhere
 abbrev pub bytesOver : Range → List ℕ → List ℕ
 bytesOver r frame = take (r .end - r .start) (drop (r .start) frame)
 
--- a part of a frame that is lent: where it stands, a block of memory and a place in it, and its bytes
-pub record Part : Type 0 where
-  pub at : ℕ × ℕ
-  pub bytes : List ℕ
-
 -- the part over a range of a frame that stands at `at`
 abbrev pub partOver : Range → ℕ × ℕ → List ℕ → Part
-partOver r at frame = record { at = (at .0, r .start + at .1); bytes = bytesOver r frame }
+partOver r at frame = part (at .0, r .start + at .1) (bytesOver r frame)
 
 abbrev pub payloadOf : Verdict → List ℕ → List ℕ
 payloadOf v frame = bytesOver (payloadRange v (length frame)) frame

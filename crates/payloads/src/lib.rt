@@ -4,6 +4,7 @@
 // nothing and copy nothing. That the payload begins at byte 14 stands in `payload_range` alone.
 ghost use mathlib.Core.Path.{_≡_};
 ghost use lib.ListN.{length};
+ghost use Rattle.wire.specs.Parts.{part};
 ghost use Rattle.payloads.specs.Payload.{payloadRange, partOver};
 
 // The verdict on a frame.
@@ -43,7 +44,7 @@ pub fn payload_range(verdict: Verdict, n: usize) -> Range
 
 // The part of the frame that the verdict lends back: the bytes of its range.
 pub fn payload(verdict: Verdict, frame: &[u8]) -> &[u8]
-    ensures { λ r. ⌜ record { at = r .ptr; bytes = now r } ≡ partOver (payloadRange verdict (length (now (frame .entry)))) (frame .entry .ptr) (now (frame .entry)) ⌝ }
+    ensures { λ r. ⌜ part (r .ptr) (now r) ≡ partOver (payloadRange verdict (length (now (frame .entry)))) (frame .entry .ptr) (now (frame .entry)) ⌝ }
 {
     let range = payload_range(verdict, frame.len());
     let start = range.start;

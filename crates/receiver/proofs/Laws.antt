@@ -15,12 +15,12 @@ use Rattle.reader.specs.Read.{readTable}
 use Rattle.reader.specs.declared.Reading.{Reading}
 use Rattle.receiver.specs.Receive.{Told, reported, Taken, taken, Had, receiveStep}
 
-pub taken-complete : (n : ℕ) (t : Table) (message : List ℕ) {r : Told} {q : Reading} → r ≡ reported (q .verdict) → q ≡ readTable t message
-    → record { report = r; table = q .table } ≡ taken (complete n) t message
+pub taken-complete : (a : Said) (n : ℕ) (t : Table) (message : List ℕ) {r : Told} {q : Reading} → a ≡ complete n → r ≡ reported (q .verdict) → q ≡ readTable t message
+    → record { report = r; table = q .table } ≡ taken a t message
 unfolding taken
-taken-complete n t message {r} {q} e f =
+taken-complete a n t message {r} {q} d e f =
     let g : r ≡ reported (readTable t message .verdict) = e ∙ ap (λ (x : Reading). reported (x .verdict)) f in
-    rw (g, ap (λ (x : Reading). x .table) f) refl
+    rw (d, g, ap (λ (x : Reading). x .table) f) refl
 
 module _ (held : Collection) (t : Table) (slots join body : List ℕ) {a : After} (e : a ≡ collectStep held slots join body) where
   pub receive-taken : {b : Taken} {kept : Collection} → b ≡ taken (a .answer) t (lentOf (a .answer) (a .held .number) body (a .join)) → kept ≡ a .held

@@ -4,7 +4,6 @@
 // the caller. A refused body changes nothing that is lent. A refused message leaves the table as it was given; its pieces
 // stay collected, so that a further copy of one is a Repeat. Nothing is read before the message is complete.
 ghost use mathlib.Core.Path.{_≡_};
-ghost use lib.ListN.{take, drop};
 ghost use Rattle.collector.specs.Answers.{said, lentOf};
 ghost use Rattle.reader.specs.Read.{readTable};
 ghost use Rattle.receiver.specs.Receive.{told, reported, taken, receiveStep};
@@ -36,26 +35,6 @@ pub struct Received {
     pub table: Table,
 }
 
-// Reads the first `n` bytes of a buffer, or all where there are fewer.
-fn read_front(table: Table, bytes: &[u8], n: usize) -> Reading
-    ensures { λ r. ⌜ r ≡ readTable table (take n (now (bytes .entry))) ⌝ }
-{
-    if n <= bytes.len() {
-        return reader::read_table(table, &bytes[..n]);
-    }
-    reader::read_table(table, bytes)
-}
-
-// Reads the piece of a body.
-fn read_piece(table: Table, body: &[u8]) -> Reading
-    ensures { λ r. ⌜ r ≡ readTable table (drop 3 (now (body .entry))) ⌝ }
-{
-    if body.len() < 3 {
-        return reader::read_table(table, &body[..0]);
-    }
-    reader::read_table(table, &body[3..])
-}
-
 // How a verdict is reported.
 fn report_of(verdict: Verdict) -> Report
     ensures { λ r. ⌜ told r ≡ reported verdict ⌝ }
@@ -80,8 +59,20 @@ fn finish(held: Collection, reading: Reading) -> Received
     }
 }
 
-// What is answered after the collector's outcome: a message that is complete is read, from the body when it came in one
-// piece and from the join buffer otherwise.
+// Reads the message of an outcome from where it stands.
+fn read_message(outcome: Outcome, table: Table, body: &[u8], join: &[u8]) -> Reading
+    ensures { λ r. ⌜ r ≡ readTable table (lentOf (said (outcome .answer)) (outcome .held .number) (now (body .entry)) (now (join .entry))) ⌝ }
+{
+    let number = outcome.held.number;
+    let answer = outcome.answer;
+    let place = messages::find_message(answer, number);
+    if place.source == messages::IN_BODY {
+        return reader::read_table(table, messages::own_part(outcome, body));
+    }
+    reader::read_table(table, messages::joined_part(outcome, join))
+}
+
+// What is answered after the collector's outcome: a message that is complete is read.
 fn take_up(outcome: Outcome, table: Table, body: &[u8], join: &[u8]) -> Received
     ensures { λ r. ⌜ (record { report = told (r .report); table = r .table } ≡ taken (said (outcome .answer)) table (lentOf (said (outcome .answer)) (outcome .held .number) (now (body .entry)) (now (join .entry)))) × (r .held ≡ outcome .held) ⌝ }
 {
@@ -103,12 +94,7 @@ fn take_up(outcome: Outcome, table: Table, body: &[u8], join: &[u8]) -> Received
             held,
             table,
         },
-        Answer::Complete(size) => {
-            if held.number == 1 {
-                return finish(held, read_piece(table, body));
-            }
-            finish(held, read_front(table, join, size))
-        }
+        Answer::Complete(_) => finish(held, read_message(outcome, table, body, join)),
     }
 }
 

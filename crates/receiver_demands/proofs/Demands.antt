@@ -4,34 +4,21 @@
 --                     arrival of the last piece missing, and the report and the table are those of the uncut message
 -- Trusts: nothing.
 use Prim.Native.Nat.{ℕ, _+_, _≤_, _<_}
-use mathlib.Core.Path.{_≡_, refl, sym, ap, subst, _∙_}
-use mathlib.Core.Bool.{Bool, true, false}
+use mathlib.Core.Path.{_≡_, sym, ap, subst, _∙_}
 use mathlib.Core.List.{List, [], _∷_}
-use mathlib.Core.Logic.{_⊎_, inl, inr, ⊎-elim}
+use mathlib.Core.Logic.{⊎-elim}
 use native.Mathlib.Omega.{arith}
-use borrow.Author.Tests.{eqb-true, eqb-false}
-use lib.Dec.{eqb}
 use lib.ListN.{length}
 use Rattle.table.specs.declared.Table.{Table}
 use Rattle.collector.specs.Answers.{complete, lentOf}
 use Rattle.collector_demands.specs.Runs.{Reply, reply}
 use Rattle.collector_demands.specs.Demand.{Lent, called, told, lentAfter, replyTo, isComplete, completions, Cutting, bodyOf, Arrived, none, other, piece, Came, Apart, Demand3}
 use Rattle.collector_demands.proofs.Demands.{demand-3}
+use Rattle.collector_demands.proofs.Last.{came-or-not}
 use Rattle.reader.specs.Read.{readTable}
 use Rattle.receiver.specs.Receive.{Told, reported, Taken, taken, receiveStep}
 use Rattle.receiver_demands.specs.EndToEnd.{Kept, stepped, keptAfter, readings, ReadOnce}
 use Rattle.receiver_demands.proofs.Follows.{lentOfKept, lent-after, readings-are, table-passed, table-silent}
-
--- whether piece k is among those that arrived
-came : {count : ℕ} {pieces h : List (List ℕ)} (k : ℕ) (t : Arrived count pieces h) → Came k t ⊎ (Came k t → ⊥)
-unfolding Came
-came k none = inr (λ x. x)
-came k (other b e t) = came k t
-came k (piece j l t) = go (eqb j k) refl (came k t) where
-  go : (b : Bool) → eqb j k ≡ b → Came k t ⊎ (Came k t → ⊥) → ((j ≡ k) ⊎ Came k t) ⊎ ((j ≡ k) ⊎ Came k t → ⊥)
-  go true e d = inl (inl (eqb-true j k e))
-  go false e (inl yes′) = inl (inr yes′)
-  go false e (inr not′) = inr (λ x. ⊎-elim (eqb-false j k e) not′ x)
 
 -- completion was reported before, and so is not reported now
 quiet : (s : Lent) (h : List (List ℕ)) (b : List ℕ) → completions s h ≡ 1 → completions s (b ∷ h) ≡ 1 → isComplete (replyTo s h b .answer) ≡ 0
@@ -65,7 +52,7 @@ module _ (s : Kept) (count : ℕ) (message : List ℕ) (pieces : List (List ℕ)
       (λ (x : Came k t).
       let earlier : (j : ℕ) → j < length pieces → Came j t = λ j q. ⊎-elim (λ (e : k ≡ j). subst (λ (i : ℕ). Came i t) e x) (λ (y : Came j t). y) (all j q) in
       table-passed s h (bodyOf count pieces k) (quiet (lentOfKept s) h (bodyOf count pieces k) (d .once t earlier) (d .once (piece k l t) all)) ∙ once-read some t earlier)
-      (λ (x : Came k t → ⊥). last-read t k l x (λ j q ne. ⊎-elim (λ (e : k ≡ j). absurd (ne (sym e))) (λ (y : Came j t). y) (all j q)) .1) (came k t)
+      (λ (x : Came k t → ⊥). last-read t k l x (λ j q ne. ⊎-elim (λ (e : k ≡ j). absurd (ne (sym e))) (λ (y : Came j t). y) (all j q)) .1) (came-or-not k t)
 
 pub demand-3-read : (s : Kept) → 24000 ≤ length (s .slots) → 24000 ≤ length (s .join) → (count : ℕ) (message : List ℕ) (pieces : List (List ℕ)) → Cutting message pieces
     → Apart (s .held) count (length pieces) → ReadOnce s count message pieces

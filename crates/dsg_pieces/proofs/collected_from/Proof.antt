@@ -1,6 +1,8 @@
 -- `dsg_pieces::collected_from` gives `collectedOf`: each arm rewrites by the variant that it is for.
 -- Trusts: nothing.
+use mathlib.Core.Path.{refl, ap, _∙_}
 use borrow.Author.Needs.{needs}
+use Rattle.dsg_pieces.specs.Bodies.{completeAt}
 use Rattle.dsg_pieces.proofs.collected_from.Statement.{statement}
 use Rattle.dsg_pieces.proofs.collected_from.Tie as tie
 
@@ -15,10 +17,10 @@ returns-3 : tie.Need-returns-3
 returns-3 c = rw (c .before .answer2 .given .1)
 
 returns-4 : tie.Need-returns-4
-returns-4 c = rw (c .complete-from .ensures, c .before .before .answer3 .given .1)
+returns-4 c = c .complete-from .ensures ∙ ap completeAt (c .before .find-message .ensures) ∙ rw (c .before .before .enum-told2 .given .1) refl
 
 pub collected-from-spec : {M : Type 1} → statement M
 collected-from-spec =
     tie.close (tie.spec
-    (λ c. search needs) (λ c. search needs) (λ c. search needs) (λ c. search needs) (λ c. search needs) (λ c. search needs) (λ c κs. search needs)
+    (λ c. search needs) (λ c. search needs) (λ c. search needs) (λ c. search needs) (λ c. search needs) (λ c. search needs) (λ c κs. search needs) (λ c κs. search needs)
     returns returns-2 returns-3 returns-4)

@@ -1,4 +1,4 @@
--- `dsg_pieces::complete_from` gives `completeOf`: each branch rewrites by its test.
+-- `dsg_pieces::complete_from` gives `completeAt`: each branch rewrites by its test.
 -- Trusts: nothing.
 use borrow.Author.Tests.{ne-eqb}
 use Rattle.dsg_pieces.proofs.complete_from.Statement.{statement}

@@ -1,6 +1,6 @@
 -- `lending::collect_lent` gives `lentStep`: a walk of its MIR by hand. `collect`, which does the work, is called with the record, the
 -- slot buffer, which is passed on for good (`gave-slice`), the body, and the join buffer, which is lent again for a lifetime of the call
--- and comes back (../Again.antt). The join buffer is then spent in `share`; the outcome, which is Copy, is handed to the three functions
+-- and comes back (../Again.antt). The join buffer is then spent in `share`; the outcome, which is Copy, is handed to the two functions
 -- that cut the parts.
 --
 --   Proof/Steps.antt     the steps that are taken more than once, and the contract of the functions that cut a part
@@ -40,15 +40,12 @@ use Rattle.collection.proofs.Collection.Laws as R′
 use Rattle.collector.proofs.collect.Symbol as work-def
 use Rattle.collector.proofs.collect.Symbol.{name as #collector·collect}
 use Rattle.collector.proofs.collect.Met as work-thm
-use Rattle.lending.proofs.own_part.Symbol as own-def
-use Rattle.lending.proofs.own_part.Symbol.{name as #lending·own-part}
-use Rattle.lending.proofs.own_part.Met as own-thm
-use Rattle.lending.proofs.joined_part.Symbol as joined-def
-use Rattle.lending.proofs.joined_part.Symbol.{name as #lending·joined-part}
-use Rattle.lending.proofs.joined_part.Met as joined-thm
-use Rattle.lending.proofs.rest_part.Symbol as rest-def
-use Rattle.lending.proofs.rest_part.Symbol.{name as #lending·rest-part}
-use Rattle.lending.proofs.rest_part.Met as rest-thm
+use Rattle.messages.proofs.own_part.Symbol as own-def
+use Rattle.messages.proofs.own_part.Symbol.{name as #messages·own-part}
+use Rattle.messages.proofs.own_part.Met as own-thm
+use Rattle.messages.proofs.joined_part.Symbol as joined-def
+use Rattle.messages.proofs.joined_part.Symbol.{name as #messages·joined-part}
+use Rattle.messages.proofs.joined_part.Met as joined-thm
 use Rattle.lending.proofs.share.Symbol as share-def
 use Rattle.lending.proofs.share.Symbol.{name as #lending·share}
 use Rattle.lending.proofs.share.Met as share-thm
@@ -56,7 +53,7 @@ use Rattle.lending.proofs.collect_lent.Key.{name as #lending·collect-l
 use Rattle.lending.proofs.collect_lent as top
 use Rattle.lending.proofs.collect_lent.Statement as stated
 use Rattle.lending.proofs.collect_lent.Code as code
-use Rattle.lending.proofs.collect_lent.Proof.Steps.{Part, ownPart, joinedPart, restPart}
+use Rattle.lending.proofs.collect_lent.Proof.Steps.{Part, ownPart, joinedPart}
 use Rattle.lending.proofs.collect_lent.Proof.Start.{U8, stayed}
 use Rattle.lending.proofs.collect_lent.Proof.Callees.{Work, Share′, Known}
 use Rattle.lending.proofs.collect_lent.Proof.Walk.{walk}
@@ -96,8 +93,7 @@ collect-lent-spec 𝓤 H 𝓜 𝓖 𝓡 =
     (tables 𝓤 H 𝓜 𝓡 code.env .C) (tables 𝓤 H 𝓜 𝓡 code.env .Λ) #lending·collect-lent code.function (code.unfolded 𝓤 H 𝓜 𝓡)
     (meets 𝓤 H (𝓖 .A) (givenOf 𝓤 H 𝓜 𝓖) (𝓜 .mem) (𝓡 .run) (tablesOf 𝓤 H 𝓜 (tables 𝓤 H 𝓜 𝓡 code.env)) (record {
       work = cited 𝓤 H (Work 𝓤 H (𝓖 .A) (𝓜 .mem) (𝓡 .run)) 𝓜 𝓡 code.env #collector·collect work-def.routine code.calls-collector·collect (work-thm.met 𝓤 H 𝓜 𝓖 𝓡);
-      own = cited 𝓤 H (Part 𝓤 H (𝓖 .A) ownPart) 𝓜 𝓡 code.env #lending·own-part own-def.routine code.calls-lending·own-part (own-thm.met 𝓤 H 𝓜 𝓖 𝓡);
-      joined = cited 𝓤 H (Part 𝓤 H (𝓖 .A) joinedPart) 𝓜 𝓡 code.env #lending·joined-part joined-def.routine code.calls-lending·joined-part (joined-thm.met 𝓤 H 𝓜 𝓖 𝓡);
-      rest = cited 𝓤 H (Part 𝓤 H (𝓖 .A) restPart) 𝓜 𝓡 code.env #lending·rest-part rest-def.routine code.calls-lending·rest-part (rest-thm.met 𝓤 H 𝓜 𝓖 𝓡);
+      own = cited 𝓤 H (Part 𝓤 H (𝓖 .A) ownPart) 𝓜 𝓡 code.env #messages·own-part own-def.routine code.calls-messages·own-part (own-thm.met 𝓤 H 𝓜 𝓖 𝓡);
+      joined = cited 𝓤 H (Part 𝓤 H (𝓖 .A) joinedPart) 𝓜 𝓡 code.env #messages·joined-part joined-def.routine code.calls-messages·joined-part (joined-thm.met 𝓤 H 𝓜 𝓖 𝓡);
       share = cited 𝓤 H (Share′ 𝓤 H (𝓖 .A) (𝓜 .mem) (𝓡 .run)) 𝓜 𝓡 code.env #lending·share share-def.routine code.calls-lending·share (share-thm.met 𝓤 H 𝓜 𝓖 𝓡);
     }))

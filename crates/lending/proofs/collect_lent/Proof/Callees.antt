@@ -1,6 +1,6 @@
 -- What the walk of `collect_lent` (../Proof.antt) knows of the functions that are called, and hands to `collect` and to `share`.
 --
---   Known                    the contracts of the five functions
+--   Known                    the contracts of the four functions
 --   to-work, goes-work       what `collect` binds, with the join buffer lent again, and that it has what it asks
 --   work-gives, work-ends    what it gives
 --   to-share, goes-share     of `share`, which takes the join buffer as `collect` left it
@@ -30,13 +30,12 @@ use Rattle.collector.specs.declared.Outcome.{Outcome}
 use Rattle.collector.proofs.Outcome as O
 use Rattle.collector.proofs.collect as work
 use Rattle.collector.proofs.collect.Symbol.{name as #collector·collect}
-use Rattle.lending.proofs.own_part.Symbol.{name as #lending·own-part}
-use Rattle.lending.proofs.joined_part.Symbol.{name as #lending·joined-part}
-use Rattle.lending.proofs.rest_part.Symbol.{name as #lending·rest-part}
+use Rattle.messages.proofs.own_part.Symbol.{name as #messages·own-part}
+use Rattle.messages.proofs.joined_part.Symbol.{name as #messages·joined-part}
 use Rattle.lending.proofs.share as share
 use Rattle.lending.proofs.share.Symbol.{name as #lending·share}
 use Rattle.lending.proofs.collect_lent as top
-use Rattle.lending.proofs.collect_lent.Proof.Steps.{Part, ownPart, joinedPart, restPart}
+use Rattle.lending.proofs.collect_lent.Proof.Steps.{Part, ownPart, joinedPart}
 use Rattle.lending.proofs.collect_lent.Proof.Start.{stayed, Entry, lives, shares, joinAt, args, vals, Done, rows, during, Of-join}
 
 module _ {M : Type 1} (𝓤 : URA M) (H : Heap 𝓤) (A : Atoms 𝓤) (mem : Memory → SProp 𝓤) (run : Routine → Fun 𝓤) where
@@ -48,9 +47,8 @@ module _ {M : Type 1} (𝓤 : URA M) (H : Heap 𝓤) (A : Atoms 𝓤) (mem : Mem
 
   pub record Known (C : Calls 𝓤 H) : Type 1 where
     pub work : Triple 𝓤 (C #collector·collect) Work
-    pub own : Triple 𝓤 (C #lending·own-part) (Part 𝓤 H A ownPart)
-    pub joined : Triple 𝓤 (C #lending·joined-part) (Part 𝓤 H A joinedPart)
-    pub rest : Triple 𝓤 (C #lending·rest-part) (Part 𝓤 H A restPart)
+    pub own : Triple 𝓤 (C #messages·own-part) (Part 𝓤 H A ownPart)
+    pub joined : Triple 𝓤 (C #messages·joined-part) (Part 𝓤 H A joinedPart)
     pub share : Triple 𝓤 (C #lending·share) Share′
 
   module _ (i : Entry) where

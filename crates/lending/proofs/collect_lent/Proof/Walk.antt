@@ -31,12 +31,13 @@ use Rattle.collection.proofs.Collection as R
 use Rattle.collection.proofs.Collection.Laws as R′
 use Rattle.collector.proofs.Outcome as O
 use Rattle.collector.proofs.Outcome.Laws as O′
+use Rattle.wire.specs.Parts.{part}
 use Rattle.lending.proofs.Lent as T
 use Rattle.lending.proofs.Lent.Laws as T′
 use Rattle.lending.proofs.Again.{lends-again, comes-back}
 use Rattle.lending.proofs.collect_lent as top
 use Rattle.lending.proofs.collect_lent.Code as code
-use Rattle.lending.proofs.collect_lent.Proof.Steps.{Bytes, out-vals, ownPart, joinedPart, restPart, twice, reads, gone, tells-it, calls-giving, calls-part}
+use Rattle.lending.proofs.collect_lent.Proof.Steps.{Bytes, out-vals, partOf, ownPart, joinedPart, twice, reads, gone, tells-it, calls-giving, calls-part}
 use Rattle.lending.proofs.collect_lent.Proof.Start.{Entry, val, lives, shares, args, held-val, vals, Done, rows, Of-lent, Of-kept, Of-join}
 use Rattle.lending.proofs.collect_lent.Proof.Callees.{Work, Share′, Known, Post, to-work, work-gives, work-ends, goes-work, to-share, share-lasts, goes-share}
 use Rattle.lending.proofs.collect_lent.Proof.Exit.{α, β, made, exits}
@@ -56,24 +57,24 @@ module _ {M : Type 1} (𝓤 : URA M) (H : Heap 𝓤) (A : Atoms 𝓤) (W : Given
       qed W ((‵ (flft (i .κs) (i .qs)) ⊛ ‵ (flft (i .κj) (i .qj)) ⊛ ‵ (flft (i .κb) (i .qb)) ⊛ ‵ ftrue) ∷ ‵ (owns (rows i (i .κj)) (args i γ) (vals i)) ∷ []) ∵
       enter ! C Λ code.function (held-val i ∷ val (i .slots) ∷ val (i .join) ∷ val (i .body) ∷ []) _ $
       alloc1 ! (λ l₀. alloc1 ! (λ l₁. alloc1 ! (λ l₂. alloc1 ! (λ l₃. alloc1 ! (λ l₄. alloc1 ! (λ l₅. alloc1 ! (λ l₆. alloc1 ! (λ l₇.
-      alloc1 ! (λ l₈. alloc1 ! (λ l₉. alloc1 ! (λ la. alloc1 ! (λ lb. alloc1 ! (λ lc. alloc1 ! (λ ld. alloc1 ! (λ le. alloc1 ! (λ lf. alloc0 ! $
+      alloc1 ! (λ l₈. alloc1 ! (λ l₉. alloc1 ! (λ la. alloc1 ! (λ lb. alloc1 ! (λ lc. alloc1 ! (λ ld. alloc1 ! (λ le. alloc0 ! $
       params1 ! $
-      pass1 ! (init ! 28 refl (LL.lawful R.the-type R′.the-laws 𝓤 H A W .typed (i .held) _ is-held .0)) $
-      pass1 ! (init ! 26 refl (tt, (tt, (record { fits = room₀ .0 }, tt)))) $
-      pass1 ! (init ! 24 refl (tt, (tt, (record { fits = room .0 }, tt)))) $
-      pass1 ! (init ! 22 refl (shr-slice-lawful 𝓤 H A W (named 2) (i .κb) u8 .typed (i .body) _ is-body .0)) $
+      pass1 ! (init ! 26 refl (LL.lawful R.the-type R′.the-laws 𝓤 H A W .typed (i .held) _ is-held .0)) $
+      pass1 ! (init ! 24 refl (tt, (tt, (record { fits = room₀ .0 }, tt)))) $
+      pass1 ! (init ! 22 refl (tt, (tt, (record { fits = room .0 }, tt)))) $
+      pass1 ! (init ! 20 refl (shr-slice-lawful 𝓤 H A W (named 2) (i .κb) u8 .typed (i .body) _ is-body .0)) $
       pass0 ! $
-      -- [_15; …; _14; …; .. ; _1; …; room for _0; …; the tokens; what the parameters own]: slots and join are passed on
-      assigns ! (addr ! (from ! (fld ! refl (hop ! (look-in ! 26 (sub ! 0 refl (whole !))) (stop !))))) (from ! (stop !)) (init ! 10 refl (tt, tt)) $
-      assigns ! (agg ! (reads ! 10 refl (and-then ! (load ! (from ! (fld ! refl (stop !))) (look-in ! 26 (sub ! 1 refl (whole !)))) (no-more !))))
+      -- [_14; …; _13; …; .. ; _1; …; room for _0; …; the tokens; what the parameters own]: slots and join are passed on
+      assigns ! (addr ! (from ! (fld ! refl (hop ! (look-in ! 24 (sub ! 0 refl (whole !))) (stop !))))) (from ! (stop !)) (init ! 10 refl (tt, tt)) $
+      assigns ! (agg ! (reads ! 10 refl (and-then ! (load ! (from ! (fld ! refl (stop !))) (look-in ! 24 (sub ! 1 refl (whole !)))) (no-more !))))
       (from ! (stop !)) (init ! 8 refl (tt, (tt, (record { fits = room₀ .0 }, tt)))) $
-      assigns ! (addr ! (from ! (fld ! refl (hop ! (look-in ! 24 (sub ! 0 refl (whole !))) (stop !))))) (from ! (stop !)) (init ! 6 refl (tt, tt)) $
-      assigns ! (agg ! (reads ! 6 refl (and-then ! (load ! (from ! (fld ! refl (stop !))) (look-in ! 24 (sub ! 1 refl (whole !)))) (no-more !))))
+      assigns ! (addr ! (from ! (fld ! refl (hop ! (look-in ! 22 (sub ! 0 refl (whole !))) (stop !))))) (from ! (stop !)) (init ! 6 refl (tt, tt)) $
+      assigns ! (agg ! (reads ! 6 refl (and-then ! (load ! (from ! (fld ! refl (stop !))) (look-in ! 22 (sub ! 1 refl (whole !)))) (no-more !))))
       (from ! (stop !)) (init ! 4 refl (tt, (tt, (record { fits = room .0 }, tt)))) $
-      move ! (33 ∷ []) $ fsplit ! $ move ! (1 ∷ []) $ fsplit ! $ move ! (1 ∷ []) $ fsplit ! $ move ! (1 ∷ []) $ fsplit ! $ move ! (1 ∷ []) $ drop ! $
+      move ! (31 ∷ []) $ fsplit ! $ move ! (1 ∷ []) $ fsplit ! $ move ! (1 ∷ []) $ fsplit ! $ move ! (1 ∷ []) $ fsplit ! $ move ! (1 ∷ []) $ drop ! $
       -- [body's; join's; slots'; held's; the locals; the tokens]: a `&` is Copy, so what body owns is had twice
       twice ! (Bytes (i .κb)) (shr-slice-copy 𝓤 H A W (named 0) (i .κb) u8) (i .body) (slice-vals (i .body)) $
-      move ! (37 ∷ []) $ split ! $ move ! (1 ∷ []) $ split ! $
+      move ! (35 ∷ []) $ split ! $ move ! (1 ∷ []) $ split ! $
       -- [κj's token; κb's and true; κs's token; body's; body's; join's; slots'; held's; the locals from 8]: join is lent again, for a lifetime ν of the call
       lft-new ! tt (λ ν. move ! (6 ∷ 1 ∷ []) $
       use2 W (later (some (λ (δ : GName). ‵ (Of-lent i ν δ) ⊛ ‵ (Of-kept i ν δ))))
@@ -84,7 +85,7 @@ module _ {M : Type 1} (𝓤 : URA M) (H : Heap 𝓤) (A : Atoms 𝓤) (W : Given
       use2 W (raw (Work 𝓤 H A mem run .pre (to-work 𝓤 H A mem run i ν δ))) (goes-work 𝓤 H A mem run i W ν δ) $
       -- [what `collect` asks; what is kept; body's; the locals from 3]
       calls-at ! fm (Work 𝓤 H A mem run) (known .work) (to-work 𝓤 H A mem run i ν δ)
-      (reads ! 31 refl (reads ! 11 refl (reads ! 7 refl (reads ! 25 refl (no-more !))))) (λ w.
+      (reads ! 29 refl (reads ! 11 refl (reads ! 7 refl (reads ! 23 refl (no-more !))))) (λ w.
       use1 W (work-gives 𝓤 H A mem run i ν δ w) (id⊢ 𝓤 _) $ await ! tt $ pick ! (λ r. split ! $ move ! (1 ∷ []) $
       use1 W (work-ends 𝓤 H A mem run i ν δ r) (id⊢ 𝓤 _) $ pick ! (λ zs.
       let slots′ = zs .1 .0 in
@@ -93,7 +94,7 @@ module _ {M : Type 1} (𝓤 : URA M) (H : Heap 𝓤) (A : Atoms 𝓤) (W : Given
       fsplit ! $ drop ! $ fsplit ! $ fsplit ! $ move ! (1 ∷ []) $ feqL ! (λ k. move ! (1 ∷ []) $ fsplit ! $ fsplit ! $ move ! (1 ∷ []) $ feqL ! (λ l. move ! (1 ∷ []) $ drop ! $
       -- [join's last list; slots' last list; the tokens and the outcome's; what is kept; body's; the locals from 5]
       move ! (2 ∷ []) $ split ! $ move ! (1 ∷ []) $ tells-it ! O.the-row out-vals (LL.tells O.the-type O′.the-laws) r w (λ is.
-      land ! (from ! (stop !)) (init ! 26 refl (LL.lawful O.the-type O′.the-laws 𝓤 H A W .typed r _ is .0)) $
+      land ! (from ! (stop !)) (init ! 24 refl (LL.lawful O.the-type O′.the-laws 𝓤 H A W .typed r _ is .0)) $
       -- the lifetime is ended, and join comes back at its last list
       move ! (1 ∷ []) $ split ! $ move ! (1 ∷ []) $ split ! $ lft-end ! tt $ move ! (0 ∷ 6 ∷ 4 ∷ []) $
       use3 W (later (‵ (Of-join i join′) ⊛ ‵ (flft (i .κj) (i .qj))))
@@ -101,38 +102,34 @@ module _ {M : Type 1} (𝓤 : URA M) (H : Heap 𝓤) (A : Atoms 𝓤) (W : Given
       -- [join's; κj's token; κb's and true; κs's token; the outcome's; slots' last list; body's; the locals from 7]: `own_part`, with the outcome had twice
       move ! (4 ∷ []) $ twice ! O.the-row copies r (out-vals r) $ move ! (4 ∷ 0 ∷ 7 ∷ []) $
       calls-part ! fm ownPart (known .own) (i .κb) (i .qb) r (i .body)
-      (reads ! 26 refl (reads ! 28 refl (no-more !))) (λ u e-own is-own.
-      land ! (from ! (stop !)) (init ! 25 refl (shr-slice-lawful 𝓤 H A W (named 0) (i .κb) u8 .typed u _ is-own .0)) $
+      (reads ! 24 refl (reads ! 26 refl (no-more !))) (λ u e-own is-own.
+      land ! (from ! (stop !)) (init ! 23 refl (shr-slice-lawful 𝓤 H A W (named 0) (i .κb) u8 .typed u _ is-own .0)) $
       -- [own's; κb's and true; the outcome's; join's; κj's token; κs's token; slots' last list; the locals from 7]: `share`
       move ! (3 ∷ 4 ∷ []) $
-      assigns ! (addr ! (from ! (fld ! refl (hop ! (look-in ! 31 (sub ! 0 refl (whole !))) (stop !))))) (from ! (stop !)) (init ! 9 refl (tt, tt)) $
-      assigns ! (agg ! (reads ! 9 refl (and-then ! (load ! (from ! (fld ! refl (stop !))) (look-in ! 31 (sub ! 1 refl (whole !)))) (no-more !))))
+      assigns ! (addr ! (from ! (fld ! refl (hop ! (look-in ! 29 (sub ! 0 refl (whole !))) (stop !))))) (from ! (stop !)) (init ! 9 refl (tt, tt)) $
+      assigns ! (agg ! (reads ! 9 refl (and-then ! (load ! (from ! (fld ! refl (stop !))) (look-in ! 29 (sub ! 1 refl (whole !)))) (no-more !))))
       (from ! (stop !)) (init ! 7 refl (tt, (tt, (record { fits = room .0 }, tt)))) $
       let to = to-share 𝓤 H A mem run i join′ in
       use2 W (raw (Share′ 𝓤 H A mem run .pre to)) (goes-share 𝓤 H A mem run i W join′) $
-      calls-giving ! fm (Share′ 𝓤 H A mem run) (known .share) to (i .κj) (i .qj) (λ t. now t ≡ join′)
+      calls-giving ! fm (Share′ 𝓤 H A mem run) (known .share) to (i .κj) (i .qj) (λ t. partOf t ≡ part (i .join .ptr) join′)
       (share-lasts 𝓤 H A mem run i join′) (λ w′. id⊢ 𝓤 _) (reads ! 6 refl (no-more !)) (λ t e-shared is-shared.
-      land ! (from ! (stop !)) (init ! 23 refl (shr-slice-lawful 𝓤 H A W (named 0) (i .κj) u8 .typed t _ is-shared .0)) $
+      land ! (from ! (stop !)) (init ! 21 refl (shr-slice-lawful 𝓤 H A W (named 0) (i .κj) u8 .typed t _ is-shared .0)) $
       -- [the shared slice's; κj's and true; own's; κb's and true; the outcome's; κs's token; slots' last list; the locals from 7]: `joined_part`, with the
-      -- shared slice had twice and the outcome three times
+      -- shared slice and the outcome had twice
       twice ! (Bytes (i .κj)) (shr-slice-copy 𝓤 H A W (named 0) (i .κj) u8) t (slice-vals t) $
-      move ! (5 ∷ []) $ twice ! O.the-row copies r (out-vals r) $ twice ! O.the-row copies r (out-vals r) $ move ! (5 ∷ 0 ∷ 3 ∷ []) $
+      move ! (5 ∷ []) $ twice ! O.the-row copies r (out-vals r) $ move ! (4 ∷ 0 ∷ 2 ∷ []) $
       calls-part ! fm joinedPart (known .joined) (i .κj) (i .qj) r t
-      (reads ! 28 refl (reads ! 24 refl (no-more !))) (λ x e-joined is-joined.
-      land ! (from ! (stop !)) (init ! 23 refl (shr-slice-lawful 𝓤 H A W (named 0) (i .κj) u8 .typed x _ is-joined .0)) $
-      -- [joined's; κj's and true; the outcome's; the outcome's; the shared slice's; own's; κb's and true; κs's token; slots' last list; the locals from 9]: `rest_part`
-      move ! (1 ∷ 2 ∷ 4 ∷ []) $ calls-part ! fm restPart (known .rest) (i .κj) (i .qj) r t
-      (reads ! 27 refl (reads ! 23 refl (no-more !))) (λ y e-rest is-rest.
-      land ! (from ! (stop !)) (init ! 20 refl (shr-slice-lawful 𝓤 H A W (named 0) (i .κj) u8 .typed y _ is-rest .0)) $
-      -- [rest's; κj's and true; joined's; the outcome's; own's; κb's and true; κs's token; slots' last list; the locals from 8]: the result is made
+      (reads ! 25 refl (reads ! 21 refl (no-more !))) (λ x e-joined is-joined.
+      land ! (from ! (stop !)) (init ! 20 refl (shr-slice-lawful 𝓤 H A W (named 0) (i .κj) u8 .typed x _ is-joined .0)) $
+      -- [joined's; κj's and true; the outcome's; the shared slice's; own's; κb's and true; κs's token; slots' last list; the locals from 8]: the result is made
       let lawful = LL.lawful (T.the-type (α i) (β i)) (T′.the-laws (α i) (β i)) 𝓤 H A W in
-      let owes = LL.owes (T.the-type (α i) (β i)) (T′.the-laws (α i) (β i)) (made r u x y) in
-      assigns ! (agg ! (reads ! 28 refl (reads ! 26 refl (reads ! 22 refl (reads ! 20 refl (no-more !))))))
-      (from ! (stop !)) (init ! 38 refl (lawful .typed (made r u x y) _ (owes (is, (is-own, (is-joined, (is-rest, tt))))) .0)) $
-      returns ! (look ! 38 refl) $
-      move ! (38 ∷ 39 ∷ []) $ gone ! $ move ! (36 ∷ 37 ∷ []) $ gone ! $ move ! (34 ∷ 35 ∷ []) $ gone ! $ move ! (32 ∷ 33 ∷ []) $ gone ! $
+      let owes = LL.owes (T.the-type (α i) (β i)) (T′.the-laws (α i) (β i)) (made r u x t) in
+      assigns ! (agg ! (reads ! 26 refl (reads ! 24 refl (reads ! 20 refl (reads ! 22 refl (no-more !))))))
+      (from ! (stop !)) (init ! 36 refl (lawful .typed (made r u x t) _ (owes (is, (is-own, (is-joined, (is-shared, tt))))) .0)) $
+      returns ! (look ! 36 refl) $
+      move ! (36 ∷ 37 ∷ []) $ gone ! $ move ! (34 ∷ 35 ∷ []) $ gone ! $ move ! (32 ∷ 33 ∷ []) $ gone ! $
       move ! (30 ∷ 31 ∷ []) $ gone ! $ move ! (28 ∷ 29 ∷ []) $ gone ! $ move ! (26 ∷ 27 ∷ []) $ gone ! $ move ! (24 ∷ 25 ∷ []) $ gone ! $
       move ! (22 ∷ 23 ∷ []) $ gone ! $ move ! (20 ∷ 21 ∷ []) $ gone ! $ move ! (18 ∷ 19 ∷ []) $ gone ! $ move ! (16 ∷ 17 ∷ []) $ gone ! $
       move ! (14 ∷ 15 ∷ []) $ gone ! $ move ! (12 ∷ 13 ∷ []) $ gone ! $ move ! (10 ∷ 11 ∷ []) $ gone ! $ move ! (8 ∷ 9 ∷ []) $ gone ! $ free0 ! $
-      keep ! (6 ∷ 1 ∷ 5 ∷ 7 ∷ 3 ∷ 4 ∷ 2 ∷ 0 ∷ []) $
-      by ! (exits 𝓤 H A W mem run i r u x y slots′ join′ e e-own (e-joined ∙ ap (joinedPart r) e-shared) (e-rest ∙ ap (restPart r) e-shared) k))))))))))))))))))))))))))))))
+      keep ! (6 ∷ 1 ∷ 5 ∷ 7 ∷ 2 ∷ 4 ∷ 0 ∷ 3 ∷ []) $
+      by ! (exits 𝓤 H A W mem run i r u x t slots′ join′ e e-own (e-joined ∙ ap (joinedPart r) e-shared) e-shared k))))))))))))))))))))))))))))
