@@ -27,7 +27,7 @@ COUNT := 60000
 AREA := all
 MEMCHECK_COUNT := 10000
 
-.PHONY: sample dcdlist setup test after-prove layout prove library boards boards-test host host-test samples host-c bench memcheck \
+.PHONY: sample dcdlist setup test after-prove layout prove edits library boards boards-test host host-test samples host-c bench memcheck \
         measure install uninstall install-test clean help
 
 sample: dcdlist ## build dcdlist and list document 01's example body (the default)
@@ -45,7 +45,7 @@ test: setup layout prove ## everything that the gate asks; the last line is rt c
 	@$(MAKE) --no-print-directory after-prove
 	@tail -n 1 $(LOGS)/ci
 
-after-prove: samples host-test host-c bench memcheck boards-test install-test
+after-prove: edits samples host-test host-c bench memcheck boards-test install-test
 
 layout: ## are all Rattle files laid out as rt fmt lays them out?
 	@rt fmt --check
@@ -53,6 +53,9 @@ layout: ## are all Rattle files laid out as rt fmt lays them out?
 prove: ## prove every crate from nothing, and try every must-fail edit
 	@mkdir -p $(LOGS)
 	@rt ci 2>&1 | tee $(LOGS)/ci
+
+edits: ## was each must-fail edit refused for the reason that it names? (reads what `make prove` wrote)
+	@tools/check-edits
 
 library: $(LIBRARY) ## prove dsg and build the archive for this processor, for C and Rust to link
 
