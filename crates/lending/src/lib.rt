@@ -23,7 +23,8 @@ fn share<'j>(join: &'j mut [u8]) -> &'j [u8]
 
 // The outcome with the message lent at two lifetimes: as a part of the body where it came in one piece,
 // else as a part of the join buffer; the other is empty, and both are where none is complete. The join buffer
-// is lent back whole beside it, since the message's borrow spends the caller's.
+// is lent back whole beside it, since the message's borrow spends the caller's: while that lives every byte is said, and what
+// the buffer holds afterwards is not.
 pub struct Lent<'b, 'j> {
     pub outcome: Outcome,
     pub own: &'b [u8],
