@@ -15,7 +15,7 @@ ifeq ($(filter $(LIBRARY),$(BOARDS)),)
 $(error this machine is $(MACHINE): dsg is for x86_64 and aarch64 Linux)
 endif
 
-# Where `make install` puts header, archive and dsg.pc; a packager gives DESTDIR too.
+# Where `make install` puts header, archive and dsg.pc, an absolute path; a packager gives DESTDIR too.
 PREFIX ?= /usr/local
 DESTDIR ?=
 VERSION := $(shell sed -n 's/^version = "\(.*\)"/\1/p' host/Cargo.toml)
@@ -60,7 +60,7 @@ edits: ## was each must-fail edit refused for the reason that it names? (reads w
 library: $(LIBRARY) ## prove dsg and build the archive for this processor, for C and Rust to link
 
 boards: $(BOARDS) ## the archives for both processors: target/boards/x86_64/libdsg.a, target/boards/aarch64/libdsg.a
-	@tail -n 2 $(LOGS)/library
+	@ls -l $(BOARDS)
 
 # One proof and one module make both.
 $(BOARDS) &: $(PROVED) tools/library tools/kit.sh
@@ -76,8 +76,7 @@ host: $(LIBRARY) ## build the Rust side: wrapper, bench, reference, requests, me
 host-test: host ## the tests of the Rust side
 	@cd host && $(CARGO) test --release --offline
 
-samples: ## dcdlist on every sample of examples/
-	@test -x target/bin/dcdlist || $(MAKE) --no-print-directory dcdlist
+samples: dcdlist ## dcdlist on every sample of examples/
 	@examples/check-bodies target/bin/dcdlist
 
 host-c: $(LIBRARY) ## the C host of examples/, built by gcc and clang and run on its scripts
@@ -97,6 +96,8 @@ measure: host ## times of the library beside plain Rust and plain copies, in one
 	@$(BIN)/measure
 
 install: $(LIBRARY) ## put dsg.h, libdsg.a and dsg.pc below PREFIX (default /usr/local), all below DESTDIR
+	@case '$(PREFIX)' in /*) ;; *) echo 'make install: PREFIX must be an absolute path' >&2; exit 2 ;; esac
+	@case '$(PREFIX)' in *[\&\|\\]*) echo 'make install: PREFIX has a character that dsg.pc cannot take' >&2; exit 2 ;; esac
 	@install -d '$(DESTDIR)$(PREFIX)/include' '$(DESTDIR)$(PREFIX)/lib/pkgconfig'
 	@install -m 644 include/dsg.h '$(DESTDIR)$(PREFIX)/include/dsg.h'
 	@install -m 644 $(LIBRARY) '$(DESTDIR)$(PREFIX)/lib/libdsg.a'

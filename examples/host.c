@@ -3,8 +3,8 @@
  * reports and writes the plain log that an installer reads. All memory is in one struct; nothing is allocated.
  *
  * usage: host [SCRIPT]        (no SCRIPT: standard input)
- * Exit status 1 where the script cannot be opened or read, with a line on standard error that names what; the log up to
- * there is written.
+ * Exit status 1 where the script cannot be opened or read or the log cannot be written, with a line on standard error that
+ * names what; the log up to there is written. A word too many is 2.
  *
  * A line of a script is a clock in milliseconds, a word, and what goes with it, and nothing more; `#` starts a comment,
  * numbers are decimal or 0x.., hex may have blanks:
@@ -121,8 +121,8 @@ static void prepare(struct board *b, uint32_t clock)
     b->address = rule->tunnel;
 }
 
-/* One event, and what follows from it. */
-static void notify(struct board *b, uint32_t clock, uint8_t event, uint16_t a, const struct dsg_timer_values *timers)
+/* One event, and what follows from it. False where it was refused: then nothing has changed. */
+static bool notify(struct board *b, uint32_t clock, uint8_t event, uint16_t a, const struct dsg_timer_values *timers)
 {
     struct dsg_modem before = b->modem;
     bool sent = dsg_transmits(&b->modem);
@@ -133,7 +133,7 @@ static void notify(struct board *b, uint32_t clock, uint8_t event, uint16_t a, c
     if (refusal != DSG_REFUSED_NOTHING) {
         stamp(clock);
         printf("event refused %lu: %s\n", (unsigned long)refusal, words_of(refusal));
-        return;
+        return false;
     }
     if (b->modem.state != before.state) {
         stamp(clock);
@@ -151,6 +151,7 @@ static void notify(struct board *b, uint32_t clock, uint8_t event, uint16_t a, c
         dsg_empty_collection(&b->held);
     }
     if (b->modem.hasucid != before.hasucid || b->modem.ucid != before.ucid) prepare(b, clock);
+    return true;
 }
 
 /* Whether a table would do something now. One that is taken up in another state does nothing, and is a repeat later. */
@@ -189,7 +190,8 @@ static void take_body(struct board *b, uint32_t clock, const uint8_t *body, size
         print_count(", ", b->table.channelcount, "channel");
         printf("\n");
         b->has_table = true;
-        notify(b, clock, DSG_TABLE_ACCEPTED, 0, &b->table.timers);
+        /* an event that is refused is lost on the modem: the next copy of the message must not be a repeat */
+        if (!notify(b, clock, DSG_TABLE_ACCEPTED, 0, &b->table.timers)) dsg_empty_collection(&b->held);
         prepare(b, clock);
         break;
     default:
@@ -387,7 +389,7 @@ static bool play_bytes(struct board *b, uint32_t clock, bool is_body, const char
     return true;
 }
 
-/* One line of the script, without its end. False where it cannot be read; then nothing was done. */
+/* One line of the script, without its end. False where it cannot be read; then nothing is told to the library. */
 static bool play(struct board *b, const char *line)
 {
     char word[16];
@@ -431,6 +433,10 @@ int main(int argc, char **argv)
     unsigned long number = 1;
     int found;
 
+    if (argc > 2) {
+        fprintf(stderr, "usage: host [SCRIPT]\n");
+        return 2;
+    }
     if (!script) {
         perror(argv[1]);
         return 1;
@@ -450,5 +456,9 @@ int main(int argc, char **argv)
     }
     printf("frames: %lu forwarded, %lu filtered, %lu of other tunnels, %lu dropped\n", b->forwarded, b->filtered,
            b->other, b->dropped);
-    return fflush(stdout) == 0 ? 0 : 1;
+    if (fflush(stdout) != 0) {
+        perror("the log");
+        return 1;
+    }
+    return 0;
 }

@@ -5,7 +5,7 @@
  * function below and stands in crates/NAME/specs; those of dsg_pieces, dsg_tables, dsg_frames and dsg_events say how
  * answers become numbers.
  * No function allocates, keeps a pointer, has state of its own, reads a clock or calls back. So they may run in
- * several threads at once, as long as no two calls are lent the same record or buffer.
+ * several threads at once, as long as no two calls are lent the same record or buffer, unless both only read it.
  *
  * An answer of more than 16 bytes is written where the first argument points, and that pointer is what the function
  * returns: struct dsg_verdict v; if (dsg_judge_prepared(&v, &tunnel, frame, length)->kind == DSG_JUDGE_FORWARD) .. Every
@@ -21,7 +21,9 @@
  *     of dsg_empty_.., the tunnel of dsg_prepare) need not be. Of records of nothing but zeros a collection has nothing
  *     collected, a modem counts as Idle and in a tunnel no rule fits; a table has timers of 0, which is not the table of
  *     the empty message;
- *   - what a function may write overlaps nothing else that is lent to the same call.
+ *   - what a function may write overlaps nothing else that is lent to the same call;
+ *   - nobody else (a thread, an interrupt, DMA) writes what is lent while the call runs, nor reads what it may write;
+ *   - the stack has room for the call: the numbers are below.
  * Everything else is tested: no value of a record, no length and no byte is an error of the caller. A record that no
  * calls could have made counts as nothing collected (collection) or as Idle (modem), a count above its limit is read
  * as the limit (table, tunnel), and a number that names no event is an event that changes nothing by itself.
@@ -50,7 +52,7 @@
 /* The library is compiled for these two: 64 bits, little-endian, the same sizes and alignments. */
 #if !(defined(__linux__) && (defined(__x86_64__) || defined(__aarch64__)) && defined(__LP64__) && \
       defined(__BYTE_ORDER__) && __BYTE_ORDER__ == __ORDER_LITTLE_ENDIAN__)
-#error "dsg.h: libdsg.a is for Linux on x86-64 and on 64-bit little-endian Arm (aarch64), and on no other processor"
+#error "dsg.h: libdsg.a is for Linux on x86-64 and on 64-bit little-endian Arm (aarch64), and for nothing else"
 #endif
 
 #ifdef __cplusplus
@@ -358,7 +360,7 @@ enum dsg_event_kind {
 };
 
 /* One event at a clock in milliseconds, which runs over its top. Returns 0, or 18 where the clock went back: 2^31 or more after
- * the last one, modulo 2^32 (never for DSG_START, nor in Idle).
+ * the last one, modulo 2^32 (never for DSG_START with 0 or 1, nor in Idle).
  * Lent: the modem. Written: the modem. Refused (18): the modem holds what it held.
  * Definition: modem_step/specs/Numbers numberedStep; dsg_events/specs/Events eventStepped. */
 uint32_t dsg_event(struct dsg_modem *modem, uint32_t clock, uint8_t event, uint16_t a, uint16_t b, uint16_t c,
@@ -378,7 +380,7 @@ struct dsg_listed {
 
 /* The text of a table that came under a change count: the lines that dcdlist writes.
  * Lent: the table, a buffer of DSG_LISTING_BYTES or more. Written: the text, at the buffer's start, and no byte behind it: it
- *   does not end with a 0 byte.
+ *   does not end with a 0 byte. Of a tunnel of 2^48 or more the last twelve digits are written.
  * Refused (number not 0): the buffer holds what it held.
  * Definition: notices/specs/Listing listing, listing/specs/Text tableText; dsg_tables/specs/Tables listAfter. */
 struct dsg_listed dsg_list_table(const struct dsg_table *table, uint8_t count, uint8_t *out, size_t out_length);

@@ -28,7 +28,7 @@ pub mod lent;
 pub mod records;
 
 pub use lent::{ClientId, Event, Part, Piece, Received, Refusal, Refused, Verdict};
-pub use records::{Collection, Modem, Table, Tunnel};
+pub use records::{state, Collection, Modem, Table, Tunnel};
 
 /// How many bytes each of the two buffers of a collection has at least.
 pub const BUFFER_BYTES: usize = 24_000;
@@ -36,10 +36,12 @@ pub const BUFFER_BYTES: usize = 24_000;
 /// A collection with its buffers, and the table that was read last.
 ///
 /// On every entry of the modem into Scanning a board forgets what it collected: the head end keeps its change count, so
-/// the message that gave the table would be a repeat for ever, and no table would be accepted on the next channel.
+/// the message that gave the table would be a repeat for ever, and no table would be accepted on the next channel. Bodies
+/// are handed over only in Checking and while [`Modem::forwards`]: a table that is accepted elsewhere does nothing, and its
+/// next copy is a repeat.
 ///
 /// ```
-/// use dsg::{Event, Modem, Received, Receiver};
+/// use dsg::{state, Event, Modem, Received, Receiver};
 ///
 /// let body = [7, 1, 1]; // change count 7, one piece of one, the empty message
 /// let (mut receiver, mut modem) = (Receiver::new(), Modem::idle());
@@ -49,7 +51,8 @@ pub const BUFFER_BYTES: usize = 24_000;
 /// modem.on_event(20, Event::TableAccepted(receiver.table().timers.into()))?;
 /// assert_eq!(receiver.receive(&body), Ok(Received::Repeat));
 ///
-/// modem.on_event(30, Event::DownstreamLost)?; // into Scanning
+/// modem.on_event(30, Event::DownstreamLost)?;
+/// assert_eq!(modem.state, state::SCANNING);
 /// receiver.forget();
 /// modem.on_event(40, Event::Locked)?;
 /// assert_eq!(receiver.receive(&body), Ok(Received::Accepted));
@@ -57,6 +60,7 @@ pub const BUFFER_BYTES: usize = 24_000;
 /// assert!(modem.forwards());
 /// # Ok::<(), dsg::Refusal>(())
 /// ```
+#[derive(Clone, Debug)]
 pub struct Receiver {
     held: Collection,
     table: Table,
@@ -186,7 +190,8 @@ impl Table {
 }
 
 impl Tunnel {
-    /// Chooses the rule for a client and looks its classifiers up.
+    /// Chooses the rule for a client and looks its classifiers up. Anew after each accepted table, and where the UCID or the
+    /// client changes.
     #[must_use]
     pub fn prepare(table: &Table, client: ClientId, ucid: Option<u8>) -> Self {
         lent::prepare_tunnel(table, client, ucid)
@@ -228,6 +233,12 @@ impl Modem {
     /// 18: the clock went back; the record stays as it was.
     pub fn on_event(&mut self, clock: u32, event: Event) -> Result<(), Refusal> {
         lent::on_event(self, clock, event)
+    }
+
+    /// The UCID, as [`Tunnel::prepare`] takes it: known in two-way operation alone.
+    #[must_use]
+    pub fn ucid(&self) -> Option<u8> {
+        (self.hasucid == 1).then_some(self.ucid)
     }
 
     /// Whether the transmitter is on.

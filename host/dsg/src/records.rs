@@ -1,7 +1,8 @@
 //! The records that a host lends, laid out as the library has them (`include/dsg.h`).
 //!
 //! They hold numbers only, and every value of every field is allowed: document 01 says what a record
-//! means that no call could have made. The layout is held to the header's in `tests/layout.rs`.
+//! means that no call could have made. The layout is held to the header's in `tests/layout.rs`, and to the library's own in
+//! `tests/library_layout`.
 
 /// How many rules, classifiers and channels a table has room for.
 pub const TABLE_ROOM: usize = 32;
