@@ -1,4 +1,4 @@
--- Demand 3 over `lentStep`, which is the whole promise of `collect_lent`: the record and the buffers are the collector's, and the two parts
+-- Demand 3 over `lentStep`, the contents in the promise of `collect_lent`: the record and the buffers are the collector's, and the two parts
 -- go by what it answers.
 --
 --   message-at        what the collector answers and leaves at the arrival of the last piece missing, and that elsewhere it is not Complete
@@ -28,6 +28,7 @@ pub record MessageAt (a : After) (body message : List ℕ) (pieces : List (List 
   pub answer : a .answer ≡ complete (length message)
   pub number : a .held .number ≡ length pieces
   pub lent : lentOf (a .answer) (a .held .number) body (a .join) ≡ message
+  pub headed : 3 ≤ length body
 
 module _ (s : Lent) (count : ℕ) (message : List ℕ) (pieces : List (List ℕ)) (d : Demand3 s count message pieces) where
   pub message-at : {b : List ℕ} {h : List (List ℕ)} (t : Arrived count pieces (b ∷ h)) → IsLast t → MessageAt (called (lentAfter s h) b) b message pieces
@@ -37,7 +38,7 @@ module _ (s : Lent) (count : ℕ) (message : List ℕ) (pieces : List (List ℕ)
       let r = d .last t k l (x .0) (x .1) in
       let a = ap (λ (y : Reply). y .answer) r in
       let z = lentAfter s h in
-      record { answer = a; number = complete-number (z .held) (z .slots) (z .join) (bodyOf count pieces k) _ a; lent = ap (λ (y : Reply). y .lent) r }
+      record { answer = a; number = complete-number (z .held) (z .slots) (z .join) (bodyOf count pieces k) _ a; lent = ap (λ (y : Reply). y .lent) r; headed = omega arith }
 
   -- elsewhere it does not complete
   pub elsewhere : {b : List ℕ} {h : List (List ℕ)} (t : Arrived count pieces (b ∷ h)) → (IsLast t → ⊥) → isComplete (called (lentAfter s h) b .answer) ≡ 0
@@ -79,7 +80,9 @@ parts s count message pieces d = record {
       rw (kept-is s h) (m .answer, p .0, p .1);
   other = λ {b} {h} t no′.
       let a = called (lentAfter s h) b in
-      rw (kept-is s h) (no-part (a .answer) (a .held .number) b (a .join) (elsewhere s count message pieces d t no′));
+      let e = elsewhere s count message pieces d t no′ in
+      let p = no-part (a .answer) (a .held .number) b (a .join) e in
+      rw (kept-is s h) (e, p .0, p .1);
 }
 
 pub demand-3-parts : (s : Lent) → 24000 ≤ length (s .slots) → 24000 ≤ length (s .join) → (count : ℕ) (message : List ℕ) (pieces : List (List ℕ)) → Cutting message pieces

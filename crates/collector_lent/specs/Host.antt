@@ -2,17 +2,17 @@
 --
 --   hostAfter s h      the record and the buffers after the bodies of h
 --   hostTo s h b       what the call for b after h answers and leaves
---   namedBy x body     the bytes that `start` and `length` of an answer name: of the body for kind 3, of the join buffer after the call for kind
---                      4, none for another kind
+--   holderOf x body    what an answer names a part of: the body for kind 3, the join buffer after the call for kind 4, nothing for another kind
+--   namedBy x body     the bytes of it that `start` and `length` name
 --   named s h          how often kind 3 or 4 was answered for the bodies of h
 --   HostOnce s count message pieces
 --                      kind 3 or 4 is answered exactly once, at the arrival of the last piece missing: 3 where it is the only piece, else 4;
---                      and what is named there is the uncut message
+--                      `length` is then the uncut message's, no byte named is past the end, and what is named is the uncut message
 --
 -- Cuttings, bodies, arrivals and the last of them are those of collector_demands/specs; a history has its newest body first.
 -- Tested by: the examples of cuttings and arrivals in collector_demands/proofs/Bench.antt; the C host of examples/ on its script.
 -- Trusts: nothing.
-use Prim.Native.Nat.{ℕ, _+_, _<_}
+use Prim.Native.Nat.{ℕ, _+_, _≤_, _<_}
 use mathlib.Core.Path.{_≡_}
 use mathlib.Core.Bool.{cond}
 use mathlib.Core.List.{List, [], _∷_}
@@ -35,11 +35,11 @@ hostAfter = leftBy (λ s b. keeps (hosts s b))
 abbrev pub hostTo : Lent → List (List ℕ) → List ℕ → CollectAfter
 hostTo s h b = hosts (hostAfter s h) b
 
-abbrev pub partOf : CollectAfter → List ℕ → List ℕ
-partOf x bytes = take (x .answer .length) (drop (x .answer .start) bytes)
+abbrev pub holderOf : CollectAfter → List ℕ → List ℕ
+holderOf x body = cond (eqb (x .answer .kind) 3) body (cond (eqb (x .answer .kind) 4) (x .join) [])
 
 abbrev pub namedBy : CollectAfter → List ℕ → List ℕ
-namedBy x body = cond (eqb (x .answer .kind) 3) (partOf x body) (cond (eqb (x .answer .kind) 4) (partOf x (x .join)) [])
+namedBy x body = take (x .answer .length) (drop (x .answer .start) (holderOf x body))
 
 abbrev pub isNamed : ℕ → ℕ
 isNamed kind = cond (eqb kind 3) 1 (cond (eqb kind 4) 1 0)
@@ -54,5 +54,6 @@ pub record HostOnce (s : Lent) (count : ℕ) (message : List ℕ) (pieces : List
   pub once : {h : List (List ℕ)} (t : Arrived count pieces h) → ((k : ℕ) → k < length pieces → Came k t) → named s h ≡ 1
   -- at the arrival of the last piece missing, and there only
   pub last : {b : List ℕ} {h : List (List ℕ)} (t : Arrived count pieces (b ∷ h)) → IsLast t
-      → (hostTo s h b .answer .kind ≡ cond (eqb (length pieces) 1) 3 4) × (namedBy (hostTo s h b) b ≡ message)
+      → (hostTo s h b .answer .kind ≡ cond (eqb (length pieces) 1) 3 4) × (hostTo s h b .answer .length ≡ length message)
+      × (hostTo s h b .answer .start + hostTo s h b .answer .length ≤ length (holderOf (hostTo s h b) b)) × (namedBy (hostTo s h b) b ≡ message)
   pub other : {b : List ℕ} {h : List (List ℕ)} (t : Arrived count pieces (b ∷ h)) → (IsLast t → ⊥) → isNamed (hostTo s h b .answer .kind) ≡ 0

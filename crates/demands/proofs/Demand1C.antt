@@ -40,7 +40,7 @@ use Rattle.payloads.specs.declared.Verdict.the-variants as verdict
 use Rattle.tunnel.specs.Judge.{verdictOf}
 use Rattle.tunnel_parts.specs.Prepared.{preparedVerdict}
 use Rattle.modem_record.specs.declared.Modem.{Modem}
-use Rattle.dsg_pieces.specs.Bodies.{completeAt, collectedOf, CollectAfter, collectAfter, receivedOf, ReceiveAfter, receiveAfter}
+use Rattle.dsg_pieces.specs.Bodies.{completeAt, collectedOf, collectAfter, receivedOf, receiveAfter}
 use Rattle.dsg_tables.specs.Tables.{readStepped, listedAs, listingAs}
 use Rattle.dsg_frames.specs.Frames.{clientOf, ucidOf, choiceFor, verdictAs, verdictFor}
 use Rattle.dsg_events.specs.Events.{eventStepped}

@@ -21,7 +21,7 @@ use Rattle.reader.specs.Read.{readTable}
 use Rattle.reader.specs.declared.Verdict.{Verdict}
 use Rattle.reader.specs.declared.Verdict.the-variants as reading
 use Rattle.receiver.specs.Receive as told
-use Rattle.receiver.specs.Receive.{Told, reported, taken, Had, receiveStep}
+use Rattle.receiver.specs.Receive.{reported, taken, receiveStep}
 use Rattle.demands.proofs.Demand1.{collectStep-refused, readTable-refused}
 
 reported-refused : (v : Verdict) (n : ℕ) → reported v ≡ told.bodyRefused n → ⊥

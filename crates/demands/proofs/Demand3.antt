@@ -4,10 +4,10 @@
 --   EndToEnd     the collector's part (crate collector_demands, specs/Demand.antt: silent, once, last), and what reading gives at completion
 --   demand-3     it holds from any lent record that holds nothing, or a collection under another count or number, with buffers long enough
 --   demand-3-there      Complete is reported at a position if and only if it is the arrival of the last piece missing
---   demand-3-lent       the same over what is lent (`lentStep`): there the part of the body or of the join buffer is the uncut message; elsewhere
---                       both parts are empty
---   demand-3-seen       the same as a C host sees it (`collectAfter`, of `dsg_collect`): kind 3 or 4 is answered once, there, and `start` and
---                       `length` name the uncut message, in the body (3) or in the join buffer after the call (4)
+--   demand-3-lent       the same over what is lent (`lentStep`): there Complete is answered and the part of the body or of the join buffer is the
+--                       uncut message; elsewhere it is not, and both parts are empty
+--   demand-3-seen       the same as a C host sees it (`collectAfter`, of `dsg_collect`): kind 3 or 4 is answered once, there, `length` is the
+--                       uncut message's, and `start` and `length` name it, all inside the body (3) or the join buffer after the call (4)
 --   demand-3-received   the same of `receiveStep`: read once, with the report and the table of the uncut message
 --   uncut-short  such a message has at most 23,952 bytes, so reading does not refuse it for its length
 --

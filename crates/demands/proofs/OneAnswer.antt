@@ -3,7 +3,8 @@
 --
 -- One law, `only` of proofs/Contract.antt, and a line for each function. Of a result that is a lent part its contents are meant and where it
 -- stands; of an answer of the collector what it says: `said-only` of crate collector_demands, proofs/Controls.antt, is that this is the
--- answer; of a message's place its three numbers (`placed-only` of crate messages, proofs/Laws.antt).
+-- answer; of a report of the receiver what it tells (`told-only` of crate receiver, proofs/Told.antt); of a message's place its three numbers
+-- (`placed-only` of crate messages, proofs/Laws.antt).
 -- The functions of the lower crates are in OneAnswerParts and OneAnswerPieces, those that a C host calls in OneAnswerC. Not here: `main` of
 -- dcdlist, whose contract can say nothing of what is read or written (docs/CONTRACTS.md).
 -- Trusts: nothing.

@@ -3,20 +3,20 @@
 --   demand-3-read     from any lent record that holds nothing, or another count or number, a cut message is read exactly once, at the
 --                     arrival of the last piece missing, and the report and the table are those of the uncut message
 -- Trusts: nothing.
-use Prim.Native.Nat.{ℕ, _+_, _≤_, _<_}
+use Prim.Native.Nat.{ℕ, _≤_, _<_}
 use mathlib.Core.Path.{_≡_, sym, ap, subst, _∙_}
-use mathlib.Core.List.{List, [], _∷_}
+use mathlib.Core.List.{List, _∷_}
 use mathlib.Core.Logic.{⊎-elim}
 use native.Mathlib.Omega.{arith}
 use lib.ListN.{length}
 use Rattle.table.specs.declared.Table.{Table}
 use Rattle.collector.specs.Answers.{complete, lentOf}
 use Rattle.collector_demands.specs.Runs.{Reply, reply}
-use Rattle.collector_demands.specs.Demand.{Lent, called, told, lentAfter, replyTo, isComplete, completions, Cutting, bodyOf, Arrived, none, other, piece, Came, Apart, Demand3}
+use Rattle.collector_demands.specs.Demand.{Lent, called, told, replyTo, isComplete, completions, Cutting, bodyOf, Arrived, none, other, piece, Came, Apart, Demand3}
 use Rattle.collector_demands.proofs.Demands.{demand-3}
 use Rattle.collector_demands.proofs.Last.{came-or-not}
 use Rattle.reader.specs.Read.{readTable}
-use Rattle.receiver.specs.Receive.{Told, reported, Taken, taken, receiveStep}
+use Rattle.receiver.specs.Receive.{reported, Taken, taken, receiveStep}
 use Rattle.receiver_demands.specs.EndToEnd.{Kept, stepped, keptAfter, readings, ReadOnce}
 use Rattle.receiver_demands.proofs.Follows.{lentOfKept, lent-after, readings-are, table-passed, table-silent}
 
