@@ -4,8 +4,8 @@
 --   lentTo s h b       what the call for b after h answers, leaves and lends
 --   LentOnce s count message pieces
 --                      at the arrival of the last piece missing the part that is lent is the uncut message: of the body where it is the only
---                      piece, else of the join buffer, the other part empty; every other arrival is not answered Complete, and
---                      both are empty
+--                      piece, else of the join buffer, the other part empty; at every other arrival Complete is not answered, and both
+--                      are empty
 --
 -- Cuttings, bodies, arrivals and the last of them are those of collector_demands/specs; a history has its newest body first.
 -- Tested by: the examples of cuttings and arrivals in collector_demands/proofs/Bench.antt.
