@@ -323,8 +323,10 @@ struct dsg_verdict {
     size_t length;
 };
 
-/* Judges a frame for a client. Lent: the table, the frame. Nothing is written.
- * Definition: tunnel/specs/Judge verdictOf; dsg_frames/specs/Frames verdictAs. */
+/* Judges a frame for a client. A classifier looks for the port behind the IP header, which is as long as its first byte
+ * says: options are stepped over. A header under five words, or one that passes the frame's end, matches no classifier; a
+ * rule that names none forwards all the same. Lent: the table, the frame. Nothing is written.
+ * Definition: tunnel/specs/Judge verdictOf, packets/specs/Packets; dsg_frames/specs/Frames verdictAs. */
 struct dsg_verdict *dsg_judge(struct dsg_verdict *answer, const struct dsg_table *table, uint8_t kind, uint64_t value,
                               uint8_t ucid_known, uint8_t ucid, const uint8_t *frame, size_t length);
 

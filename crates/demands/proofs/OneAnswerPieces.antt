@@ -15,6 +15,7 @@ use Rattle.relation.proofs.relate.Reads as relate
 use Rattle.body_tests.proofs.refuse.Reads as refuse
 use Rattle.packets.proofs.wrong_length.Reads as wrong_length
 use Rattle.packets.proofs.read_packet.Reads as read_packet
+use Rattle.packets.proofs.read_port.Reads as read_port
 use Rattle.matching.proofs.entry_of.Reads as entry_of
 use Rattle.matching.proofs.fits_packet.Reads as fits_packet
 use Rattle.bodies.proofs.list_body.Reads as list_body
@@ -49,12 +50,15 @@ wrong_length-one κs = only (pieces.wrong_length-gives κs)
 pub read_packet-one : (κs : Lfts 1) → One answer (read_packet.Post κs)
 read_packet-one κs = only (pieces.read_packet-gives κs)
 
+pub read_port-one : (κs : Lfts 1) → One answer (read_port.Post κs)
+read_port-one κs = only (pieces.read_port-gives κs)
+
 -- ---- matching
 
 pub entry_of-one : (κs : Lfts 0) → One answer (entry_of.Post κs)
 entry_of-one κs = only (pieces.entry_of-gives κs)
 
-pub fits_packet-one : (κs : Lfts 1) → One answer (fits_packet.Post κs)
+pub fits_packet-one : (κs : Lfts 0) → One answer (fits_packet.Post κs)
 fits_packet-one κs = only (pieces.fits_packet-gives κs)
 
 -- ---- texts

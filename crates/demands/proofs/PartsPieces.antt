@@ -14,9 +14,10 @@ use Rattle.held.proofs.is_of.Reads as is_of
 use Rattle.joining.proofs.join_pieces.Reads as join_pieces
 use Rattle.relation.proofs.relate.Reads as relate
 use Rattle.body_tests.proofs.refuse.Reads as refuse
-use Rattle.packets.specs.Packets.{wrongLength, packetOf}
+use Rattle.packets.specs.Packets.{wrongLength, packetOf, portOf}
 use Rattle.packets.proofs.wrong_length.Reads as wrong_length
 use Rattle.packets.proofs.read_packet.Reads as read_packet
+use Rattle.packets.proofs.read_port.Reads as read_port
 use Rattle.matching.specs.Entry.{entryOf, fitsPacket}
 use Rattle.matching.proofs.entry_of.Reads as entry_of
 use Rattle.matching.proofs.fits_packet.Reads as fits_packet
@@ -59,12 +60,15 @@ wrong_length-gives κs a x s h = h
 pub read_packet-gives : (κs : Lfts 1) → Gives answer (read_packet.Post κs) (λ a. packetOf (now (a .0)))
 read_packet-gives κs a x s h = h
 
+pub read_port-gives : (κs : Lfts 1) → Gives answer (read_port.Post κs) (λ a. portOf (now (a .0)))
+read_port-gives κs a x s h = h
+
 -- ---- matching
 
 pub entry_of-gives : (κs : Lfts 0) → Gives answer (entry_of.Post κs) (λ a. entryOf (a .0))
 entry_of-gives κs a x s h = h
 
-pub fits_packet-gives : (κs : Lfts 1) → Gives answer (fits_packet.Post κs) (λ a. fitsPacket (now (a .1 .1 .0)) (a .1 .0) (a .0))
+pub fits_packet-gives : (κs : Lfts 0) → Gives answer (fits_packet.Post κs) (λ a. fitsPacket (a .1 .0) (a .1 .1 .0) (a .0))
 fits_packet-gives κs a x s h = h
 
 -- ---- texts: the place behind the text and the lent buffer

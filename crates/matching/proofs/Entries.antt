@@ -13,16 +13,17 @@ use lib.Dec.{eqb}
 use Rattle.table.specs.declared.Classifier.{Classifier}
 use Rattle.table.specs.Table.{isPresent}
 use Rattle.packets.specs.declared.Packet.{Packet}
-use Rattle.packets.specs.Packets.{isIpv4, sourceAt, destinationAt, packetOf}
+use Rattle.packets.specs.declared.Port.{Port}
+use Rattle.packets.specs.Packets.{isIpv4, sourceAt, destinationAt, packetOf, portOf}
 use Rattle.packets.proofs.Laws.{full, none, packetOf-ipv4}
 use Rattle.matching.specs.declared.Entry.{Entry}
 use Rattle.matching.specs.Match.{portWithin, maskOf, startOf, endOf, fitsSource, fitsPort, matchesFrame}
-use Rattle.matching.specs.Entry.{entryOf, fitsPacket, matchesEntry}
+use Rattle.matching.specs.Entry.{entryOf, portFits, fitsPacket, matchesEntry}
 
 module _ (frame : List ℕ) (p : Packet) (e : p ≡ packetOf frame) where
-  pub matchesEntry-ipv4 : p .ipv4 ≡ true → (en : Entry) → matchesEntry frame en ≡ fitsPacket frame p en
+  pub matchesEntry-ipv4 : (q : Port) → q ≡ portOf frame → p .ipv4 ≡ true → (en : Entry) → matchesEntry frame en ≡ fitsPacket p q en
   unfolding matchesEntry
-  matchesEntry-ipv4 h en = rw (← e, h)
+  matchesEntry-ipv4 q f h en = rw (← e, ← f, h)
 
   pub matchesEntry-not : p .ipv4 ≡ false → (en : Entry) → matchesEntry frame en ≡ false
   unfolding matchesEntry
@@ -42,8 +43,8 @@ source-of frame cl = go (eqb (cl .hassource) 0)
     go true = rw (and-zero-r (sourceAt frame))
     go false = refl
 
-ports-of : (frame : List ℕ) (cl : Classifier) → not (isPresent (entryOf cl .ports)) || portWithin frame (entryOf cl .start) (entryOf cl .end) ≡ fitsPort frame cl
-unfolding entryOf fitsPort
+ports-of : (frame : List ℕ) (cl : Classifier) → not (isPresent (entryOf cl .ports)) || portFits (portOf frame) (entryOf cl .start) (entryOf cl .end) ≡ fitsPort frame cl
+unfolding entryOf fitsPort portFits portWithin portOf
 ports-of frame cl = go (isPresent (cl .hasstart) || isPresent (cl .hasend))
   where
     go : (b : Bool) → not (isPresent (cond b 1 0)) || portWithin frame (startOf cl) (endOf cl) ≡ not b || portWithin frame (startOf cl) (endOf cl)
@@ -54,7 +55,7 @@ both : {a b c d : Bool} → a ≡ b → c ≡ d → a && c ≡ b && d
 both e f = rw (e, f)
 
 -- of an IPv4 packet
-inner : (frame : List ℕ) (cl : Classifier) → fitsPacket frame (full frame) (entryOf cl)
+inner : (frame : List ℕ) (cl : Classifier) → fitsPacket (full frame) (portOf frame) (entryOf cl)
     ≡ eqb (destinationAt frame) (cl .destination) && (fitsSource frame cl && fitsPort frame cl)
 unfolding fitsPacket entryOf
 inner frame cl =
@@ -66,7 +67,7 @@ unfolding matchesEntry matchesFrame packetOf
 matchesEntry-of frame cl = go (isIpv4 frame)
   where
     go : (b : Bool) → cond b (full frame) none .ipv4
-        && fitsPacket frame (cond b (full frame) none) (entryOf cl)
+        && fitsPacket (cond b (full frame) none) (portOf frame) (entryOf cl)
         ≡ b && (eqb (destinationAt frame) (cl .destination) && (fitsSource frame cl && fitsPort frame cl))
     go true = inner frame cl
     go false = refl

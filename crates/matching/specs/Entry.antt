@@ -1,8 +1,9 @@
 -- Entry: a classifier with its absent parts filled in, and whether a packet fits it.
 --
 --   entryOf cl            the entry of a classifier: no source is mask 0 and source 0
---   fitsPacket frame p e  whether an IPv4 packet, with the frame's port, fits an entry
---   matchesEntry frame e  whether an entry matches a frame
+--   portFits port a e     there is a port, and a <= port <= e
+--   fitsPacket packet port entry   whether an IPv4 packet with this port fits an entry
+--   matchesEntry frame entry       whether an entry matches a frame
 --
 -- That `matchesEntry frame (entryOf cl)` is `matchesFrame frame cl` is a law in proofs/Entries.antt.
 -- Trusts: nothing.
@@ -10,13 +11,14 @@ use Prim.Native.Nat.{ℕ}
 use mathlib.Core.Bool.{Bool, cond, not, _&&_, _||_}
 use mathlib.Core.List.{List}
 use lib.Bits.{bitAnd}
-use lib.Dec.{eqb}
+use lib.Dec.{leb, eqb}
 use Rattle.table.specs.declared.Classifier.{Classifier}
 use Rattle.table.specs.Table.{isPresent}
 use Rattle.packets.specs.declared.Packet.{Packet}
-use Rattle.packets.specs.Packets.{packetOf}
+use Rattle.packets.specs.declared.Port.{Port}
+use Rattle.packets.specs.Packets.{packetOf, portOf}
 use Rattle.matching.specs.declared.Entry.{Entry}
-use Rattle.matching.specs.Match.{portWithin, presentOr, maskOf, startOf, endOf}
+use Rattle.matching.specs.Match.{presentOr, maskOf, startOf, endOf}
 
 -- 1 where one of two marks says present
 abbrev pub portsOf : ℕ → ℕ → ℕ
@@ -33,11 +35,14 @@ entryOf cl = record {
   ports = portsOf (cl .hasstart) (cl .hasend);
 }
 
-unfoldable pub fitsPacket : List ℕ → Packet → Entry → Bool
-fitsPacket frame p e =
-    eqb (p .destination) (e .destination)
-    && (eqb (bitAnd (p .source) (e .mask)) (e .source)
-    && (not (isPresent (e .ports)) || portWithin frame (e .start) (e .end)))
+unfoldable pub portFits : Port → ℕ → ℕ → Bool
+portFits port start end = port .present && (leb start (port .number) && leb (port .number) end)
+
+unfoldable pub fitsPacket : Packet → Port → Entry → Bool
+fitsPacket packet port entry =
+    eqb (packet .destination) (entry .destination)
+    && (eqb (bitAnd (packet .source) (entry .mask)) (entry .source)
+    && (not (isPresent (entry .ports)) || portFits port (entry .start) (entry .end)))
 
 unfoldable pub matchesEntry : List ℕ → Entry → Bool
-matchesEntry frame e = packetOf frame .ipv4 && fitsPacket frame (packetOf frame) e
+matchesEntry frame entry = packetOf frame .ipv4 && fitsPacket (packetOf frame) (portOf frame) entry

@@ -1,7 +1,5 @@
 -- Match: whether a classifier matches a frame (document 01, "Choosing and judging").
 --
---   portAt frame           the destination port: behind a header of 20 bytes
---   hasPort frame          protocol 6 or 17, fragment offset 0 (13 bits), length 38 or more
 --   portWithin frame a e   the frame has a port, and a <= port <= e
 --   presentOr mark v w     the value v of a part whose mark says present, else w
 --   maskOf, startOf, endOf, namesPort   the parts of a classifier, an absent one as the document fills it in
@@ -10,23 +8,14 @@
 --
 -- Lengths are the frame's. A byte beyond the frame's end counts as 0, and no condition looks at one.
 -- Tested by: random frames against the other program. Trusts: nothing.
-use Prim.Native.Nat.{ℕ, _%_}
+use Prim.Native.Nat.{ℕ}
 use mathlib.Core.Bool.{Bool, cond, not, _&&_, _||_}
 use mathlib.Core.List.{List}
 use lib.Bits.{bitAnd}
-use lib.ListN.{length, getD}
 use lib.Dec.{leb, eqb}
 use Rattle.table.specs.declared.Classifier.{Classifier}
 use Rattle.table.specs.Table.{isPresent}
-use Rattle.numbers.specs.Numbers.{numberAt}
-use Rattle.packets.specs.Packets.{isIpv4, sourceAt, destinationAt}
-
-unfoldable pub portAt : List ℕ → ℕ
-portAt frame = numberAt 2 frame 36
-
-unfoldable pub hasPort : List ℕ → Bool
-hasPort frame =
-    leb 38 (length frame) && (eqb (numberAt 2 frame 20 % 8192) 0 && (eqb (getD frame 23 0) 6 || eqb (getD frame 23 0) 17))
+use Rattle.packets.specs.Packets.{isIpv4, hasPort, portAt, sourceAt, destinationAt}
 
 unfoldable pub portWithin : List ℕ → ℕ → ℕ → Bool
 portWithin frame start end = hasPort frame && (leb start (portAt frame) && leb (portAt frame) end)

@@ -1,14 +1,13 @@
 // Whether a classifier matches a packet (document 01, "Choosing and judging").
 //
 // Public functions: `entry_of` fills a classifier's absent parts in, `fits_packet` compares it with a packet.
-// Both take any input and refuse nothing: a byte beyond the end counts as 0. The tests stand in the document's
-// order; nothing is written.
-use numbers::number2;
+// Both take any input and refuse nothing. The tests stand in the document's order; nothing is written.
 use packets::Packet;
+use packets::Port;
 use table::Classifier;
 ghost use mathlib.Core.Path.{_≡_};
-ghost use Rattle.matching.specs.Match.{hasPort, portWithin, presentOr};
-ghost use Rattle.matching.specs.Entry.{portsOf, entryOf, fitsPacket};
+ghost use Rattle.matching.specs.Match.{presentOr};
+ghost use Rattle.matching.specs.Entry.{portsOf, entryOf, portFits, fitsPacket};
 
 // A classifier with its absent parts filled in; `ports` is 0 where it names no port.
 pub struct Entry {
@@ -21,35 +20,17 @@ pub struct Entry {
     pub ports: u8,
 }
 
-// Whether the packet has a port: protocol 6 or 17, no fragment behind the first, 38 bytes or more.
-fn has_port(frame: &[u8]) -> bool
-    ensures { λ r. ⌜ r ≡ hasPort (now (frame .entry)) ⌝ }
+// Whether there is a port, from `start` to `end`.
+fn port_fits(port: Port, start: u16, end: u16) -> bool
+    ensures { λ r. ⌜ r ≡ portFits port start end ⌝ }
 {
-    if frame.len() < 38 {
+    if !port.present {
         return false;
     }
-    if number2(frame, 20) % 8192 != 0 {
+    if port.number < start {
         return false;
     }
-    let protocol = frame[23];
-    if protocol == 6 {
-        return true;
-    }
-    protocol == 17
-}
-
-// Whether the packet has a port, from `start` to `end`.
-fn port_within(frame: &[u8], start: u16, end: u16) -> bool
-    ensures { λ r. ⌜ r ≡ portWithin (now (frame .entry)) start end ⌝ }
-{
-    if !has_port(frame) {
-        return false;
-    }
-    let port = number2(frame, 36);
-    if port < start {
-        return false;
-    }
-    port <= end
+    port.number <= end
 }
 
 // The mark's value where it is there, else the other.
@@ -92,18 +73,18 @@ pub fn entry_of(cl: Classifier) -> Entry
     }
 }
 
-// Whether an IPv4 packet fits the entry. The port is looked for only where the addresses fit.
-pub fn fits_packet(e: Entry, p: Packet, frame: &[u8]) -> bool
-    ensures { λ r. ⌜ r ≡ fitsPacket (now (frame .entry)) p e ⌝ }
+// Whether an IPv4 packet with this port fits the entry.
+pub fn fits_packet(entry: Entry, packet: Packet, port: Port) -> bool
+    ensures { λ r. ⌜ r ≡ fitsPacket packet port entry ⌝ }
 {
-    if p.destination != e.destination {
+    if packet.destination != entry.destination {
         return false;
     }
-    if p.source & e.mask != e.source {
+    if packet.source & entry.mask != entry.source {
         return false;
     }
-    if e.ports == 0 {
+    if entry.ports == 0 {
         return true;
     }
-    port_within(frame, e.start, e.end)
+    port_fits(port, entry.start, entry.end)
 }

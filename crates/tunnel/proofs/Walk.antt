@@ -19,7 +19,8 @@ use Rattle.order.specs.Best.{bestPlace}
 use Rattle.order.proofs.Places.{bestPlace-none}
 use Rattle.order.proofs.Scan.{nothing, scan, scan-none, scan-some}
 use Rattle.packets.specs.declared.Packet.{Packet}
-use Rattle.packets.specs.Packets.{packetOf}
+use Rattle.packets.specs.declared.Port.{Port}
+use Rattle.packets.specs.Packets.{packetOf, portOf}
 use Rattle.listed.specs.Listed.{namesNumber}
 use Rattle.matching.specs.Match.{matchesFrame}
 use Rattle.matching.specs.Entry.{entryOf, fitsPacket}
@@ -27,15 +28,15 @@ use Rattle.matching.proofs.Entries.{matchesEntry-ipv4, matchesEntry-of, matches
 use Rattle.tunnel.specs.Judge.{matchPlace}
 
 -- what a classifier must pass: the packet and the rule
-abbrev pub passes : List ℕ → Packet → Rule → Classifier → Bool
-passes frame packet rule cl = fitsPacket frame packet (entryOf cl) && namesNumber rule (cl .number)
+abbrev pub passes : Packet → Port → Rule → Classifier → Bool
+passes packet port rule cl = fitsPacket packet port (entryOf cl) && namesNumber rule (cl .number)
 
 -- the best place by a test, and the walk that looks for it
 abbrev bestBy : (Classifier → Bool) → List Classifier → ℕ
 bestBy ok cs = bestPlace (λ cl. cl .priority) (λ cl. cl .number) ok cs
 
-abbrev pub walk : List ℕ → Packet → Rule → Best → ℕ → List Classifier → Best
-walk frame packet rule b at cs = scan (λ cl. cl .priority) (λ cl. cl .number) (passes frame packet rule) b at cs
+abbrev pub walk : Packet → Port → Rule → Best → ℕ → List Classifier → Best
+walk packet port rule b at cs = scan (λ cl. cl .priority) (λ cl. cl .number) (passes packet port rule) b at cs
 
 module _ (t : Table) (rule : Rule) (frame : List ℕ) (long : length (t .classifiers) ≡ 32) where
   few : length (classifiersOf t) ≤ 32
@@ -51,19 +52,19 @@ module _ (t : Table) (rule : Rule) (frame : List ℕ) (long : length (t .classif
         en ∙ sym (length-classifiersOf t long) ∙ sym none
 
     -- of an IPv4 packet, the two tests are one
-    same : p .ipv4 ≡ true → matchPlace t rule frame ≡ bestBy (passes frame p rule) (classifiersOf t)
+    same : (q : Port) → q ≡ portOf frame → p .ipv4 ≡ true → matchPlace t rule frame ≡ bestBy (passes p q rule) (classifiersOf t)
     unfolding matchPlace
-    same h =
-        let one : (cl : Classifier) → matchesFrame frame cl ≡ fitsPacket frame p (entryOf cl) =
-        λ cl. sym (matchesEntry-of frame cl) ∙ matchesEntry-ipv4 frame p e h (entryOf cl) in
+    same q f h =
+        let one : (cl : Classifier) → matchesFrame frame cl ≡ fitsPacket p q (entryOf cl) =
+        λ cl. sym (matchesEntry-of frame cl) ∙ matchesEntry-ipv4 frame p e q f h (entryOf cl) in
         ap (λ (ok : Classifier → Bool). bestBy ok (classifiersOf t)) (fun-ext (λ cl. ap (λ (b : Bool). b && namesNumber rule (cl .number)) (one cl)))
 
-    module _ (h : p .ipv4 ≡ true) (b : Best) (eb : b ≡ walk frame p rule nothing 0 (classifiersOf t)) where
-      at : b .place ≡ walk frame p rule nothing 0 (classifiersOf t) .place
+    module _ (q : Port) (f : q ≡ portOf frame) (h : p .ipv4 ≡ true) (b : Best) (eb : b ≡ walk p q rule nothing 0 (classifiersOf t)) where
+      at : b .place ≡ walk p q rule nothing 0 (classifiersOf t) .place
       at = ap (λ (x : Best). x .place) eb
 
       pub matchPlace-none : (n : ℕ) → n ≡ limitedTo 32 (t .classifiercount) → b .place ≡ 32 → n ≡ matchPlace t rule frame
-      matchPlace-none n en eq = en ∙ sym (length-classifiersOf t long) ∙ sym (same h ∙ scan-none _ _ (passes frame p rule) (classifiersOf t) few (sym at ∙ eq))
+      matchPlace-none n en eq = en ∙ sym (length-classifiersOf t long) ∙ sym (same q f h ∙ scan-none _ _ (passes p q rule) (classifiersOf t) few (sym at ∙ eq))
 
       pub matchPlace-some : (b .place ≡ 32 → ⊥) → b .place ≡ matchPlace t rule frame
-      matchPlace-some ne = at ∙ sym (same h ∙ scan-some _ _ (passes frame p rule) (classifiersOf t) few (λ eq. ne (at ∙ eq)) .0)
+      matchPlace-some ne = at ∙ sym (same q f h ∙ scan-some _ _ (passes p q rule) (classifiersOf t) few (λ eq. ne (at ∙ eq)) .0)

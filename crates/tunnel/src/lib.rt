@@ -14,7 +14,9 @@ use numbers::number6;
 use order::Best;
 use order::is_better;
 use packets::Packet;
+use packets::Port;
 use packets::read_packet;
+use packets::read_port;
 use packets::wrong_length;
 use payloads::Verdict;
 use table::Classifier;
@@ -37,15 +39,15 @@ fn take_classifier(
     rule: Rule,
     cl: Classifier,
     packet: Packet,
-    frame: &[u8],
+    port: Port,
 ) -> Best
-    ensures { λ r. ⌜ r ≡ bestAfter best at (cl .priority) (cl .number) (fitsPacket (now (frame .entry)) packet (entryOf cl) && namesNumber rule (cl .number)) ⌝ }
+    ensures { λ r. ⌜ r ≡ bestAfter best at (cl .priority) (cl .number) (fitsPacket packet port (entryOf cl) && namesNumber rule (cl .number)) ⌝ }
 {
     if !is_better(best, cl.priority, cl.number) {
         return best;
     }
     let e = entry_of(cl);
-    if !fits_packet(e, packet, frame) {
+    if !fits_packet(e, packet, port) {
         return best;
     }
     if !names_number(rule, cl.number) {
@@ -67,6 +69,7 @@ fn match_place(table: Table, rule: Rule, frame: &[u8]) -> usize
     if !packet.ipv4 {
         return n;
     }
+    let port = read_port(frame);
     let mut best = Best {
         place: 32,
         priority: 0,
@@ -75,7 +78,7 @@ fn match_place(table: Table, rule: Rule, frame: &[u8]) -> usize
     let mut i: usize = 0;
     while i < n {
         let cl = table.classifiers[i];
-        best = take_classifier(best, i, rule, cl, packet, frame);
+        best = take_classifier(best, i, rule, cl, packet, port);
         i += 1;
     }
     let place = best.place;

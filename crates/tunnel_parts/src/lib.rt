@@ -8,6 +8,7 @@ use matching::fits_packet;
 use numbers::number2;
 use numbers::number4;
 use packets::read_packet;
+use packets::read_port;
 use packets::wrong_length;
 use payloads::Verdict;
 use table::limited;
@@ -54,6 +55,7 @@ fn first_match<'a, 'b>(
     if !packet.ipv4 {
         return n;
     }
+    let port = read_port(frame);
     let mut i: usize = 0;
     while i < n {
         let e = Entry {
@@ -65,7 +67,7 @@ fn first_match<'a, 'b>(
             number: numbers[i],
             ports: ports[i],
         };
-        if fits_packet(e, packet, frame) {
+        if fits_packet(e, packet, port) {
             return i;
         }
         i += 1;

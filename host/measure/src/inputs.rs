@@ -120,3 +120,10 @@ pub fn frame(number: u8, destination: u8, port: u16) -> Vec<u8> {
     frame[36..38].copy_from_slice(&port.to_be_bytes());
     frame
 }
+
+/// The frame with a Router Alert option behind the 20 bytes of its IP header.
+pub fn with_alert(mut frame: Vec<u8>) -> Vec<u8> {
+    frame[14] = 0x46;
+    frame.splice(34..34, [0x94, 0x04, 0, 0]);
+    frame
+}

@@ -3,7 +3,7 @@
 use dsg::lent::{self, Piece, Verdict};
 use dsg::records::Client;
 use dsg::{Collection, Event, Modem, Table, BUFFER_BYTES};
-use measure::inputs::{frame, long_rows, sixteen_bodies, table_message, unlisted, LONGEST};
+use measure::inputs::{frame, long_rows, sixteen_bodies, table_message, unlisted, with_alert, LONGEST};
 use measure::plain;
 
 fn messages() -> Vec<Vec<u8>> {
@@ -84,7 +84,7 @@ fn judges_alike_with_and_without_a_prepared_tunnel() {
     use plain::judge::Verdict as Plain;
     let mut table = Table::default();
     table.read(&table_message(32)).expect("accepted");
-    let frames = [
+    let mut frames = vec![
         frame(9, 17, 0x1234),
         frame(8, 17, 0x1234),
         frame(9, 99, 0x1234),
@@ -92,6 +92,16 @@ fn judges_alike_with_and_without_a_prepared_tunnel() {
         vec![0; 13],
         vec![0; 1519],
     ];
+    for cut in [33, 34, 37, 38, 41, 42, 132] {
+        let mut frame = with_alert(frame(9, 17, 0x1234));
+        frame.truncate(cut);
+        frames.push(frame);
+    }
+    for words in [0, 4, 7, 15] {
+        let mut frame = frame(9, 17, 0x1234);
+        frame[14] = 0x40 | words;
+        frames.push(frame);
+    }
     for (rule, frame) in (0..34u8).flat_map(|rule| frames.iter().map(move |f| (rule, f))) {
         let client = Client {
             kind: 4,

@@ -21,7 +21,7 @@ returns-3 c = simp (eq-eqb _ _ (c .before .before .before .before .before .befor
 returns-4 : tie.Need-returns-4
 unfolding fitsPacket
 returns-4 c =
-    simp (c .port-within .ensures, eq-eqb _ _ (c .before .before .before .before .before .before .before .if1 .left), eq-eqb _ _ (c .before .before .before .if2 .left), ne-eqb _ _ (c .before .if3 .left))
+    simp (c .port-fits .ensures, eq-eqb _ _ (c .before .before .before .before .before .before .before .if1 .left), eq-eqb _ _ (c .before .before .before .if2 .left), ne-eqb _ _ (c .before .if3 .left))
 
 pub fits-packet-spec : {M : Type 1} → statement M
 fits-packet-spec = tie.close (tie.spec returns returns-2 returns-3 (λ c κs. search needs) returns-4)

@@ -1,4 +1,4 @@
--- `packets::is_ipv4` gives `isIpv4`: the length, the EtherType, the version.
+-- `packets::is_ipv4` gives `isIpv4`: the length, the EtherType, the version, the length of the header, its end.
 -- Trusts: nothing.
 use borrow.Author.Needs.{needs}
 use borrow.Author.Tests.{eq-eqb, ne-eqb, lt-leb, le-leb}
@@ -16,7 +16,24 @@ returns-2 c = simp (le-leb _ _ (c .before .before .if1 .left), ← c .before .nu
 
 returns-3 : tie.Need-returns-3
 unfolding isIpv4
-returns-3 c = simp (le-leb _ _ (c .before .before .before .if1 .left), ← c .before .before .number2 .ensures, eq-eqb _ _ (c .before .if2 .left))
+returns-3 c =
+    let second = c .before .before in
+    simp (le-leb _ _ (second .before .before .if1 .left), ← second .before .number2 .ensures, eq-eqb _ _ (second .if2 .left), ne-eqb _ _ (c .if3 .taken))
+
+returns-4 : tie.Need-returns-4
+unfolding isIpv4
+returns-4 c =
+    let third = c .before .before in
+    let second = third .before .before in
+    simp (le-leb _ _ (second .before .before .if1 .left), ← second .before .number2 .ensures, eq-eqb _ _ (second .if2 .left), eq-eqb _ _ (third .if3 .left), lt-leb _ _ (c .if4 .taken))
+
+returns-5 : tie.Need-returns-5
+unfolding isIpv4
+returns-5 c =
+    let fourth = c .before in
+    let third = fourth .before .before in
+    let second = third .before .before in
+    simp (le-leb _ _ (second .before .before .if1 .left), ← second .before .number2 .ensures, eq-eqb _ _ (second .if2 .left), eq-eqb _ _ (third .if3 .left), le-leb _ _ (fourth .if4 .left), c .header-end .ensures)
 
 pub is-ipv4-spec : {M : Type 1} → statement M
 is-ipv4-spec =
@@ -26,4 +43,8 @@ is-ipv4-spec =
     (λ c κs. search needs)
     returns-2
     (λ c. search needs)
-    returns-3)
+    returns-3
+    (λ c. search needs)
+    returns-4
+    (λ c κs. search needs)
+    returns-5)

@@ -15,11 +15,16 @@ use std::array::from_fn;
 use std::collections::BTreeSet;
 use std::hint::black_box;
 
+/// Where the IP header of a frame ends, by the low half of its first byte; 0 where the frame has none.
+fn header_end(frame: &[u8]) -> usize {
+    frame.get(14).map_or(0, |first| 14 + 4 * usize::from(first & 15))
+}
+
 /// A tunnel of any numbers, many of them the frame's own.
 fn outright(random: &mut Random, frame: &[u8]) -> Tunnel {
     let part = |from: usize, to: usize| number(frame.get(from..to).unwrap_or_default());
     let (address, source, destination) = (part(0, 6), part(26, 30) as u32, part(30, 34) as u32);
-    let port = part(36, 38) as u16;
+    let port = part(header_end(frame) + 2, header_end(frame) + 4) as u16;
     let (far, any) = (random.between(1, 0xFFFF) as u64, random.word());
     Tunnel {
         address: random.pick(&[address, address, address, address | far << 48, any]),
@@ -59,9 +64,12 @@ fn alike(random: &mut Random, tunnel: &Tunnel, frame: &[u8]) -> Tunnel {
     alike
 }
 
-/// The verdict as far as document 01 and dsg.h say it; none where the entries decide.
+/// The verdict as far as documents 01 and 02 and dsg.h say it; none where the entries decide.
 fn said(tunnel: &Tunnel, frame: &[u8]) -> Option<Judged> {
-    let ip = frame.len() >= 34 && frame[12..14] == [8, 0] && frame[14] >> 4 == 4;
+    let ip = frame.len() >= 34
+        && frame[12..14] == [8, 0]
+        && (0x45..=0x4F).contains(&frame[14])
+        && header_end(frame) <= frame.len();
     match tunnel.mode {
         _ if !(14..=1_518).contains(&frame.len()) => Some(refused(16)),
         0 => Some(refused(17)),
