@@ -1,5 +1,5 @@
 //! Chooses the rule for a client and judges a frame (document 01, "Choosing and judging",
-//! refusals 16 and 17).
+//! refusals 16 and 17; document 02, Req 02, for the IP header's length).
 //!
 //! The table is a lent one: it may repeat rule and classifier numbers and hold values that no
 //! message gives. Nothing is written.
@@ -86,16 +86,25 @@ struct Packet {
     destination: [u8; 4],
     protocol: u8,
     fragment_offset: u16,
-    /// The bytes where TCP and UDP have the destination port, if the frame has them.
+    /// The second pair of bytes after the header, where TCP and UDP have the destination port, if
+    /// the frame has it.
     port: Option<u16>,
 }
 
 impl Packet {
-    /// `None` unless EtherType, length and IP version let a classifier match.
+    /// `None` unless EtherType, length, IP version and header length let a classifier match.
+    ///
+    /// The header's length is the low half of its first byte, in words of four bytes, and ports
+    /// stand after the header (document 02, Req 02). Options change no other field's place.
     fn of(frame: &[u8]) -> Option<Packet> {
+        if frame.len() < 34 {
+            return None;
+        }
         let ether_type = pair(frame, 12)?;
-        let version = frame.get(14)? >> 4;
-        if ether_type != 0x0800 || version != 4 {
+        let version = frame[14] >> 4;
+        let words = usize::from(frame[14] & 0x0F);
+        let header_end = 14 + 4 * words;
+        if ether_type != 0x0800 || version != 4 || words < 5 || header_end > frame.len() {
             return None;
         }
         Some(Packet {
@@ -103,7 +112,7 @@ impl Packet {
             destination: address(frame, 30)?,
             protocol: frame[23],
             fragment_offset: pair(frame, 20)? & 0x1FFF,
-            port: pair(frame, 36),
+            port: pair(frame, header_end + 2),
         })
     }
 }

@@ -1,13 +1,13 @@
-//! The independent program: a DSG receiver written from document 01 alone.
+//! The independent program: a DSG receiver written from documents 01 and 02 alone.
 //!
 //! It shares no code, no table and no test data with the proved library, and exists to be compared
-//! with it. It is written to be read beside the document; speed comes second.
+//! with it. It is written to be read beside the documents; speed comes second.
 //!
 //!   collecting   pieces into a message        document 01, "Collecting pieces"
 //!   elements     a message into elements      "Elements", refusals 6 to 14
 //!   table        elements into a table        "Elements", refusals 3 and 15
 //!   receiving    a body all the way to a table   both of the sections above
-//!   choosing     a rule for a client, and the verdict on a frame   "Choosing and judging"
+//!   choosing     a rule for a client, and the verdict on a frame   "Choosing and judging"; Req 02
 //!   modem        one event on the record      "Modem record"
 //!   listing      what `dcdlist` writes        "Listing"
 //!   protocol     the bench protocol's lines

@@ -1,7 +1,10 @@
-//! What several test files want: bytes from text, and a collection with its lent buffers.
+//! What several test files want: bytes from text, a collection with its lent buffers and, in
+//! `judging`, a frame with tables to judge it by.
 
 // Each test file is a program of its own and uses a part of this.
 #![allow(dead_code)]
+
+pub mod judging;
 
 use reference::collecting::{take_piece, Record, Taken, BUFFER_MIN};
 use reference::receiving::{receive_body, Received};
