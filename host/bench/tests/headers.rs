@@ -45,8 +45,8 @@ fn table() -> Table {
     }
 }
 
-/// The first eight bytes of the IP header behind its first, and the protocol: UDP and TCP, the last of
-/// the fragments behind the first, a first fragment of more, and no port at all.
+/// The two bytes of flags and fragment offset, and the protocol: UDP, TCP, a fragment behind the first, the
+/// first of several, and a protocol without ports.
 const KINDS: [([u8; 2], u8); 5] = [
     ([0x00, 0x00], 17),
     ([0x40, 0x00], 6),
@@ -107,7 +107,9 @@ fn same_as_other_program_on_every_header_length_and_frame_length() {
     // By a classifier only headers of five words or more, each of them; by none every header.
     let of = |number: &str, words: std::ops::Range<u8>| {
         let number = Some(number.to_string());
-        words.map(move |words| (number.clone(), words)).collect::<Vec<_>>()
+        words
+            .map(move |words| (number.clone(), words))
+            .collect::<Vec<_>>()
     };
     let all = [of("0", 0..16), of("1", 5..16), of("2", 5..16)];
     assert_eq!(matched, all.concat().into_iter().collect());

@@ -5,7 +5,9 @@
 use dsg::ffi;
 use dsg::records::Client;
 use dsg::{Collection, Event, Modem, Table, Tunnel, BUFFER_BYTES};
-use measure::inputs::{frame, long_rows, sixteen_bodies, table_message, unlisted, with_alert, LONGEST};
+use measure::inputs::{
+    frame, long_rows, sixteen_bodies, table_message, unlisted, with_alert, LONGEST,
+};
 use measure::plain;
 use measure::rounds::{medians, print_line, report, runner};
 use std::hint::black_box;
@@ -209,10 +211,7 @@ fn frames() -> [(&'static str, Vec<u8>); 4] {
     let best = 17;
     [
         ("forward", frame(9, best, 0x1234)),
-        (
-            "forward, with options",
-            with_alert(frame(9, best, 0x1234)),
-        ),
+        ("forward, with options", with_alert(frame(9, best, 0x1234))),
         ("other", frame(8, best, 0x1234)),
         ("filtered", frame(9, 99, 0x1234)),
     ]

@@ -3,7 +3,9 @@
 use dsg::lent::{self, Piece, Verdict};
 use dsg::records::Client;
 use dsg::{Collection, Event, Modem, Table, BUFFER_BYTES};
-use measure::inputs::{frame, long_rows, sixteen_bodies, table_message, unlisted, with_alert, LONGEST};
+use measure::inputs::{
+    frame, long_rows, sixteen_bodies, table_message, unlisted, with_alert, LONGEST,
+};
 use measure::plain;
 
 fn messages() -> Vec<Vec<u8>> {

@@ -17,7 +17,9 @@ use std::hint::black_box;
 
 /// Where the IP header of a frame ends, by the low half of its first byte; 0 where the frame has none.
 fn header_end(frame: &[u8]) -> usize {
-    frame.get(14).map_or(0, |first| 14 + 4 * usize::from(first & 15))
+    frame
+        .get(14)
+        .map_or(0, |first| 14 + 4 * usize::from(first & 15))
 }
 
 /// A tunnel of any numbers, many of them the frame's own.
