@@ -1,7 +1,7 @@
 //! Makes bench requests from a seed, and compares the answers that programs give to them.
 //!
 //!   generator    requests of an area, scenario by scenario
-//!   pieces, receiving, messages, rows, tables, frames, events   the scenarios' parts, by subject
+//!   pieces, receiving, messages, rows, tables, frames, headers, events   the scenarios' parts
 //!   random       the numbers behind them
 //!   programs     a program that answers requests through pipes
 //!   tally        how often each answer, row and broken record was seen
@@ -15,6 +15,7 @@
 pub mod events;
 pub mod frames;
 pub mod generator;
+pub mod headers;
 pub mod messages;
 pub mod pieces;
 pub mod programs;

@@ -5,6 +5,7 @@
 //!   collections   bodies by the buffers and records that they meet, messages that `recv` completes
 //!   lent          tables that become lent, by what they hold and where they come from
 //!   questions     what is asked of them, by what decides the answer
+//!   headers       frames that classifiers were asked about, by IP header and port
 //!   marks         which parts a classifier has
 //!   modems        rows of the modem's table, broken records, timers about their ends
 //!
@@ -13,6 +14,7 @@
 
 mod answers;
 mod collections;
+mod headers;
 mod lent;
 mod marks;
 mod modems;
@@ -37,6 +39,7 @@ impl Default for Tally {
             .chain(collections::lines())
             .chain(lent::lines())
             .chain(questions::lines())
+            .chain(headers::lines())
             .chain(modems::lines());
         Tally {
             counts: lines.map(|line| (line, 0)).collect(),

@@ -94,6 +94,52 @@ fn every_line_about_lent_tables_is_seen_in_10000_requests_of_judging() {
         missed(&tally, |line| line.contains("classifier with")),
         NONE
     );
+    assert_eq!(missed(&tally, |line| line.starts_with("header: ")), NONE);
+}
+
+/// The frames that classifiers let pass, and those that they did not.
+fn frames_judged(seed: u64, count: usize) -> [Vec<Vec<u8>>; 2] {
+    let mut session = Session::default();
+    let mut judged = [Vec::new(), Vec::new()];
+    for request in Generator::new(seed, Area::Judge).take(count) {
+        let answer = session.answer(request.clone());
+        let words: Vec<&str> = answer.split(' ').collect();
+        match (request, &words[..]) {
+            (Request::Judge(_, _, frame), ["forward", number, _]) if *number != "0" => {
+                judged[0].push(frame);
+            }
+            (Request::Judge(_, _, frame), ["filtered"]) => judged[1].push(frame),
+            _ => {}
+        }
+    }
+    judged
+}
+
+#[test]
+fn a_quarter_of_the_frames_that_classifiers_judge_have_options() {
+    for frames in frames_judged(1, 20_000) {
+        let options = |frame: &&Vec<u8>| frame.get(14).is_some_and(|first| first & 0x0F > 5);
+        let with_options = frames.iter().filter(options).count();
+        assert!(frames.len() >= 1_000, "{}", frames.len());
+        assert!(4 * with_options >= frames.len(), "{with_options}");
+    }
+}
+
+#[test]
+fn ports_at_both_ends_of_a_range_decide_often() {
+    let tally = tallied(1, Area::Judge, 20_000);
+    let places = [
+        ("port at the start: forward", 100),
+        ("port at the end: forward", 100),
+        ("port 1 below the start: filtered", 60),
+        ("port 1 past the end: filtered", 60),
+    ];
+    for options in ["options", "no options"] {
+        for (place, least) in places {
+            let line = format!("header: {options}, {place}");
+            assert!(tally.of(&line) >= least, "{line}: {}", tally.of(&line));
+        }
+    }
 }
 
 #[test]

@@ -71,6 +71,7 @@ impl Lent {
                     table: &self.table,
                     client: *client,
                     ucid: *ucid,
+                    frame: frame_of(request),
                 };
                 let mut lines = question.seen(answer);
                 lines.extend(self.asked(request.word()));
@@ -113,6 +114,14 @@ impl Lent {
         let of = [(self.by_recv, BY_RECV), (self.kept, KEPT)];
         let of = of.into_iter().filter(|(holds, _)| *holds);
         of.map(|(_, of)| asked_line(word, of)).collect()
+    }
+}
+
+/// The frame of a `judge`.
+fn frame_of(request: &Request) -> Option<&[u8]> {
+    match request {
+        Request::Judge(_, _, frame) => Some(frame),
+        _ => None,
     }
 }
 

@@ -1,8 +1,9 @@
 //! Questions about a lent table, by what decides the answer: a UCID at an end of its range or none,
 //! the broadcast clients of value 0 and of length 0, the last place of a full list, a classifier with
-//! some of its parts.
+//! some of its parts, the header of a frame (`headers`).
 
-use super::marks::{all_marks, marks_line, marks_of, Marks};
+use super::headers;
+use super::marks::{all_marks, marks_line, marks_of};
 use reference::choosing::choose_rule;
 use reference::protocol::tables::write_client;
 use reference::protocol::words::or_dash;
@@ -64,6 +65,8 @@ pub struct Question<'t> {
     pub table: &'t Table,
     pub client: Client,
     pub ucid: Option<u8>,
+    /// Of a `judge`.
+    pub frame: Option<&'t [u8]>,
 }
 
 impl<'t> Question<'t> {
@@ -76,8 +79,15 @@ impl<'t> Question<'t> {
             let words: Vec<&str> = answer.split(' ').collect();
             lines.extend(self.found_last(chosen, &words).map(last_line));
             let said = format!("judge: {}", words[0]);
-            let marks = self.judged(&self.table.rules[chosen], &words);
-            lines.extend(marks.into_iter().map(|marks| marks_line(&said, marks)));
+            let rule = &self.table.rules[chosen];
+            let frame = self.frame.unwrap_or_default();
+            for classifier in self.judged(rule, &words) {
+                lines.push(marks_line(&said, marks_of(classifier)));
+                lines.extend(headers::seen(frame, classifier, words[0]));
+            }
+            if rule.classifiers.is_empty() && words[0] == "forward" {
+                lines.extend(headers::seen_unasked(frame, words[0]));
+            }
         }
         lines
     }
@@ -132,16 +142,16 @@ impl<'t> Question<'t> {
             .map(|(list, _)| list)
     }
 
-    /// The marks of the classifier that let a frame pass, or of those that did not.
-    fn judged(&self, rule: &Rule, answer: &[&str]) -> Vec<Marks> {
+    /// The classifier that let a frame pass, or those that did not.
+    fn judged(&self, rule: &Rule, answer: &[&str]) -> Vec<&'t Classifier> {
         let named = |c: &&Classifier| rule.classifiers.contains(&c.number);
         let named = self.table.classifiers.iter().filter(named);
         match answer {
-            ["filtered"] => named.map(marks_of).collect(),
+            ["filtered"] => named.collect(),
             ["forward", number, _] => {
                 let told = |c: &&Classifier| c.number.to_string() == *number;
                 match named.filter(told).collect::<Vec<_>>()[..] {
-                    [only] => vec![marks_of(only)],
+                    [only] => vec![only],
                     _ => Vec::new(),
                 }
             }
