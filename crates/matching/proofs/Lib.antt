@@ -1,3 +1,3 @@
--- Entries: an entry matches where its classifier does. Plain: what the header's length decides of a match.
+-- Entries: an entry matches where its classifier does. Headers: what the header's length decides of a match.
 pub mod Entries
-pub mod Plain
+pub mod Headers

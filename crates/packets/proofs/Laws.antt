@@ -3,8 +3,7 @@
 --   full frame, none   the packet of an IPv4 frame, and of any other
 --   packetOf-ipv4      a packet says whether the frame is one of IPv4
 --   headerEnd-le       a header ends at byte 74 at the latest
---   isIpv4-few         a header under five words is none of an IPv4 packet
---   isIpv4-past        nor is one that passes the frame's end
+--   isIpv4-few, isIpv4-past   a frame whose header has under five words, or passes the frame's end, counts as no IPv4 packet
 -- Trusts: nothing.
 use mathlib.Core.Path.{_≡_, refl}
 use mathlib.Core.Bool.{Bool, true, false, cond, and-false}

@@ -32,7 +32,7 @@ use Rattle.payloads.specs.declared.Verdict.the-variants.{Refused, Other, Forwar
 use Rattle.packets.specs.Packets.{wrongLength, addressAt, headerWords, headerEnd}
 use Rattle.listed.specs.Listed.{namesNumber}
 use Rattle.matching.specs.Match.{matchesFrame}
-use Rattle.matching.proofs.Plain.{matchesFrame-few, matchesFrame-past, plainMatches, matchesFrame-plain}
+use Rattle.matching.proofs.Headers.{matchesFrame-few, matchesFrame-past, plainMatches, matchesFrame-plain}
 use Rattle.tunnel.specs.Judge.{matchPlace, ruleVerdict, choiceVerdict, verdictOf}
 
 matchPlace-none : (t : Table) (rule : Rule) (frame : List ℕ) → ((cl : Classifier) → matchesFrame frame cl ≡ false) → matchPlace t rule frame ≡ length (classifiersOf t)
