@@ -1,13 +1,14 @@
--- Controls: wrong programs of document 01, "What the contracts must settle", refuted: none of them meets the promise that it breaks.
+-- Controls: wrong programs of document 01, "What the contracts must settle", and of the requests, refuted: none of them meets the promise that it breaks.
 --
 --   no-refuse-all              reading: one that refuses every message
 --   no-one-tunnel              choosing: one that gives every client the same rule
+--   no-header-of-20            judging: one that takes every IP header for 20 bytes (document 02, Req 02)
 --   no-still-modem             the step: one that returns the record untouched
 --   no-first-piece-completes   collecting: one that completes at the first piece of several, whatever it answers later
 --   no-invented-slots          collecting: one that once, after some history, answers Waiting with another number than that of the empty slots
 --
 -- Each is over any function that meets the promise, not over ours. The last two hold from any lent record with nothing collected and any
--- buffers of 24,000 bytes or more. The crates collector_demands, reader and modem have controls of their own, cited here.
+-- buffers of 24,000 bytes or more. The crates collector_demands, reader, tunnel and modem have controls of their own, cited here.
 -- Trusts: nothing.
 use Prim.Native.Nat.{ℕ, _≤_}
 use mathlib.Core.Path.{_≡_, refl, sym, ap, _∙_}
@@ -28,6 +29,10 @@ use Rattle.choice.specs.declared.Choice.{Choice}
 use Rattle.choice.specs.declared.Choice.the-variants as choice
 use Rattle.order.specs.Best.{comesBefore, anyOf, firstPlace, isBest, bestPlace}
 use Rattle.choice.specs.Choose.{isClient, listsClient, admitsUcid, fitsClient, chosenPlace, choiceOf}
+use Rattle.payloads.specs.declared.Verdict.{Verdict}
+use Rattle.tunnel.specs.Judge.{verdictOf}
+use Rattle.tunnel.proofs.Headers.{plainVerdict}
+use Rattle.tunnel.proofs.Controls as tunnel
 use Rattle.modem_record.specs.declared.Modem.{Modem}
 use Rattle.modem_rows.specs.declared.Event.{Event}
 use Rattle.modem_step.specs.declared.Stepped.{Stepped}
@@ -78,6 +83,12 @@ no-one-tunnel f meets same =
     let e : choice.Chosen 0 ≡ choice.Chosen 1 = sym (each-its-own .0) ∙ sym first ∙ same twoRules (application 1) (application 2) Unknown ∙ second ∙ each-its-own .1 in
     let z : _≡_ {A = ℕ} 0 1 = cc in
     omega arith
+
+-- ---- judging
+
+pub no-header-of-20 : (f : Table → Client → Ucid → List ℕ → Verdict) → ((t : Table) (c : Client) (u : Ucid) (frame : List ℕ) → f t c u frame ≡ verdictOf t c u frame)
+    → ((t : Table) (c : Client) (u : Ucid) (frame : List ℕ) → f t c u frame ≡ plainVerdict t c u frame) → ⊥
+no-header-of-20 = tunnel.no-header-of-20
 
 -- ---- the modem
 

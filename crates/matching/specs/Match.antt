@@ -1,4 +1,4 @@
--- Match: whether a classifier matches a frame (document 01, "Choosing and judging").
+-- Match: whether a classifier matches a frame (document 01, "Choosing and judging"; where the port stands: document 02, Req 02).
 --
 --   portWithin frame a e   the frame has a port, and a <= port <= e
 --   presentOr mark v w     the value v of a part whose mark says present, else w
@@ -6,7 +6,7 @@
 --   fitsSource, fitsPort   the two conditions that a classifier may leave out; a mask alone is none
 --   matchesFrame frame cl  all of it
 --
--- Lengths are the frame's. A byte beyond the frame's end counts as 0, and no condition looks at one.
+-- A byte beyond the frame's end counts as 0; `matchesFrame` looks at none, since it asks the port of an IPv4 packet only.
 -- Tested by: random frames against the other program. Trusts: nothing.
 use Prim.Native.Nat.{ℕ}
 use mathlib.Core.Bool.{Bool, cond, not, _&&_, _||_}

@@ -8,7 +8,7 @@
 --   isIpv4 frame           EtherType 0800, length 34 or more, IP version 4; a header of five words or more that does not pass
 --                          the frame's end
 --   sourceAt, destinationAt   the source and destination address: in the first five words of the header
---   hasPort frame          four bytes or more behind the header, fragment offset 0 (13 bits), protocol 6 or 17
+--   hasPort frame          of an IPv4 packet: four bytes or more behind the header, fragment offset 0 (13 bits), protocol 6 or 17
 --   portAt frame           the destination port: the second pair of bytes behind the header
 --   packetOf frame         the addresses of a frame; 0 where it is no IPv4 packet
 --   portOf frame           whether there is a port, and the number in its place

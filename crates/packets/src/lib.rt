@@ -1,8 +1,9 @@
 // The length of a frame, the IPv4 packet in it and its port (document 01, "Choosing and judging"; document 02, Req 02).
 //
 // Public functions: `wrong_length` tests a frame's length, `read_packet` reads what every classifier looks at, `read_port`
-// what only those look at that name a port. They take any frame and refuse nothing: what is no IPv4 packet, or has no port,
-// is answered as such. The IP header is as long as the frame says. Nothing is written.
+// what only those look at that name a port. They take any frame and refuse nothing: `read_packet` answers what is no IPv4
+// packet as such, and `read_port` is about IPv4 packets, which it does not ask again. The IP header is as long as the frame
+// says. Nothing is written.
 use numbers::number1;
 use numbers::number2;
 use numbers::number4;
@@ -16,7 +17,7 @@ pub struct Packet {
     pub source: u32,
 }
 
-// The destination port of a frame: whether there is one, and the number in its place.
+// The destination port of an IPv4 packet: whether there is one, and the number in its place.
 pub struct Port {
     pub present: bool,
     pub number: u16,

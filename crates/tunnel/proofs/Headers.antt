@@ -3,7 +3,7 @@
 --   verdictOf-free     a rule that names no classifier forwards, whatever the header says
 --   verdictOf-none     a rule that names some filters where no classifier matches
 --   verdictOf-few, verdictOf-past   so a header under five words, or one that passes the frame's end, is filtered
---   verdictBy ok t frame c u   the verdict by any test of classifiers: the text of specs/Judge.antt, with the test handed over
+--   choiceBy, verdictBy ok t frame c u   the verdict by any test of classifiers: the text of specs/Judge.antt, with the test handed over
 --   verdictOf-by       by `matchesFrame` it is `verdictOf`
 --   plainVerdict t c u frame   the verdict as document 01 had it, with every header taken for 20 bytes
 --   verdictOf-plain    of a header of five words, the same as today
@@ -25,7 +25,6 @@ use Rattle.choice.specs.declared.Ucid.{Ucid}
 use Rattle.choice.specs.declared.Choice.{Choice}
 use Rattle.choice.specs.declared.Choice.the-variants as choice
 use Rattle.order.specs.Best.{bestPlace}
-use Rattle.order.proofs.Places.{bestPlace-none}
 use Rattle.choice.specs.Choose.{choiceOf, ruleAt}
 use Rattle.payloads.specs.declared.Verdict.{Verdict}
 use Rattle.payloads.specs.declared.Verdict.the-variants.{Refused, Other, Forward, Filtered}
@@ -34,10 +33,7 @@ use Rattle.listed.specs.Listed.{namesNumber}
 use Rattle.matching.specs.Match.{matchesFrame}
 use Rattle.matching.proofs.Headers.{matchesFrame-few, matchesFrame-past, plainMatches, matchesFrame-plain}
 use Rattle.tunnel.specs.Judge.{matchPlace, ruleVerdict, choiceVerdict, verdictOf}
-
-matchPlace-none : (t : Table) (rule : Rule) (frame : List ℕ) → ((cl : Classifier) → matchesFrame frame cl ≡ false) → matchPlace t rule frame ≡ length (classifiersOf t)
-unfolding matchPlace
-matchPlace-none t rule frame miss = bestPlace-none _ _ _ (classifiersOf t) (λ cl mem. rw (miss cl))
+use Rattle.tunnel.proofs.Verdicts.{matchPlace-miss}
 
 -- ---- a frame to the tunnel of the chosen rule
 
@@ -50,7 +46,7 @@ module _ (t : Table) (c : Client) (u : Ucid) (frame : List ℕ) (k : ℕ) (sized
     pub verdictOf-none : ((cl : Classifier) → matchesFrame frame cl ≡ false) → verdictOf t c u frame ≡ Filtered
     unfolding verdictOf choiceVerdict ruleVerdict
     verdictOf-none miss =
-        let nowhere : matchPlace t (ruleAt t k) frame ≡ length (classifiersOf t) = matchPlace-none t (ruleAt t k) frame miss in
+        let nowhere : matchPlace t (ruleAt t k) frame ≡ length (classifiersOf t) = matchPlace-miss t (ruleAt t k) frame miss in
         rw (sized, chosen, eq-eqb _ _ here, ne-eqb _ _ names, nowhere, le-ltb (length (classifiersOf t)) (length (classifiersOf t)) (omega arith))
 
     pub verdictOf-few : headerWords frame < 5 → verdictOf t c u frame ≡ Filtered

@@ -16,7 +16,6 @@ use Rattle.table.specs.declared.Table.{Table}
 use Rattle.table.specs.Table.{limitedTo, classifiersOf}
 use Rattle.order.specs.declared.Best.{Best}
 use Rattle.order.specs.Best.{bestPlace}
-use Rattle.order.proofs.Places.{bestPlace-none}
 use Rattle.order.proofs.Scan.{nothing, scan, scan-none, scan-some}
 use Rattle.packets.specs.declared.Packet.{Packet}
 use Rattle.packets.specs.declared.Port.{Port}
@@ -26,6 +25,7 @@ use Rattle.matching.specs.Match.{matchesFrame}
 use Rattle.matching.specs.Entry.{entryOf, fitsPacket}
 use Rattle.matching.proofs.Entries.{matchesEntry-ipv4, matchesEntry-of, matchesFrame-not}
 use Rattle.tunnel.specs.Judge.{matchPlace}
+use Rattle.tunnel.proofs.Verdicts.{matchPlace-miss}
 
 -- what a classifier must pass: the packet and the rule
 abbrev pub passes : Packet → Port → Rule → Classifier → Bool
@@ -45,11 +45,7 @@ module _ (t : Table) (rule : Rule) (frame : List ℕ) (long : length (t .classif
   module _ (p : Packet) (e : p ≡ packetOf frame) where
     -- no IPv4 packet: nothing matches
     pub matchPlace-foreign : (n : ℕ) → n ≡ limitedTo 32 (t .classifiercount) → p .ipv4 ≡ false → n ≡ matchPlace t rule frame
-    unfolding matchPlace
-    matchPlace-foreign n en h =
-        let ok : Classifier → Bool = λ cl. matchesFrame frame cl && namesNumber rule (cl .number) in
-        let none = bestPlace-none (λ cl. cl .priority) (λ cl. cl .number) ok (classifiersOf t) (λ cl m. rw (matchesFrame-not frame p e h cl)) in
-        en ∙ sym (length-classifiersOf t long) ∙ sym none
+    matchPlace-foreign n en h = en ∙ sym (length-classifiersOf t long) ∙ sym (matchPlace-miss t rule frame (λ cl. matchesFrame-not frame p e h cl))
 
     -- of an IPv4 packet, the two tests are one
     same : (q : Port) → q ≡ portOf frame → p .ipv4 ≡ true → matchPlace t rule frame ≡ bestBy (passes p q rule) (classifiersOf t)

@@ -1,4 +1,4 @@
-//! The independent program: a DSG receiver written from documents 01 and 02 alone.
+//! The independent program: a DSG receiver written from documents 01 and 02, and our readings of them.
 //!
 //! It shares no code, no table and no test data with the proved library, and exists to be compared
 //! with it. It is written to be read beside the documents; speed comes second.
