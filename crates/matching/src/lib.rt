@@ -1,11 +1,16 @@
 // Whether a classifier matches a packet (document 01, "Choosing and judging").
 //
 // Public functions: `entry_of` fills a classifier's absent parts in, `fits_packet` compares it with a packet.
-// Both take any input and refuse nothing. The tests stand in the document's order; nothing is written.
+// Both take any input and refuse nothing; nothing is written. The port is tested ahead of the addresses (document 02,
+// Req 03); whether all tests hold does not depend on their order.
 use packets::Packet;
 use packets::Port;
 use table::Classifier;
 ghost use mathlib.Core.Path.{_≡_};
+ghost use mathlib.Core.Bool.{not, _||_};
+ghost use lib.Bits.{bitAnd};
+ghost use lib.Dec.{eqb};
+ghost use Rattle.table.specs.Table.{isPresent};
 ghost use Rattle.matching.specs.Match.{presentOr};
 ghost use Rattle.matching.specs.Entry.{portsOf, entryOf, portFits, fitsPacket};
 
@@ -73,18 +78,32 @@ pub fn entry_of(cl: Classifier) -> Entry
     }
 }
 
-// Whether an IPv4 packet with this port fits the entry.
-pub fn fits_packet(entry: Entry, packet: Packet, port: Port) -> bool
-    ensures { λ r. ⌜ r ≡ fitsPacket packet port entry ⌝ }
+// Whether the port passes the entry's test; an entry that names no port has none.
+fn port_passes(entry: Entry, port: Port) -> bool
+    ensures { λ r. ⌜ r ≡ not (isPresent (entry .ports)) || portFits port (entry .start) (entry .end) ⌝ }
 {
-    if packet.destination != entry.destination {
-        return false;
-    }
-    if packet.source & entry.mask != entry.source {
-        return false;
-    }
     if entry.ports == 0 {
         return true;
     }
     port_fits(port, entry.start, entry.end)
+}
+
+// Whether the packet's source is the entry's under its mask.
+fn source_fits(entry: Entry, packet: Packet) -> bool
+    ensures { λ r. ⌜ r ≡ eqb (bitAnd (packet .source) (entry .mask)) (entry .source) ⌝ }
+{
+    packet.source & entry.mask == entry.source
+}
+
+// Whether an IPv4 packet with this port fits the entry. The port comes first: most frames miss on it.
+pub fn fits_packet(entry: Entry, packet: Packet, port: Port) -> bool
+    ensures { λ r. ⌜ r ≡ fitsPacket packet port entry ⌝ }
+{
+    if !port_passes(entry, port) {
+        return false;
+    }
+    if packet.destination != entry.destination {
+        return false;
+    }
+    source_fits(entry, packet)
 }
