@@ -1,5 +1,7 @@
 //! What is measured: messages, pieces, tables and frames, made here and nowhere random.
 
+use std::ops::RangeInclusive;
+
 /// The longest message.
 pub const LONGEST: usize = 23_952;
 
@@ -24,19 +26,25 @@ fn filled_row(kind: u8, children: &[Vec<u8>]) -> Vec<u8> {
     element(kind, &value)
 }
 
-fn classifier_children(number: u16) -> Vec<Vec<u8>> {
+/// A classifier for packets to that destination, whose ports are in the range.
+fn classifier_of(number: u16, destination: u8, ports: RangeInclusive<u16>) -> Vec<Vec<u8>> {
     let ip = [
         element(3, &[10, 1, 2, 0]),
         element(4, &[255, 255, 255, 0]),
-        element(5, &[239, 1, 2, number as u8]),
-        element(9, &[0x10, 0]),
-        element(10, &[0x1F, 0xFF]),
+        element(5, &[239, 1, 2, destination]),
+        element(9, &ports.start().to_be_bytes()),
+        element(10, &ports.end().to_be_bytes()),
     ];
     vec![
         element(2, &number.to_be_bytes()),
         element(5, &[number as u8]),
         row(9, &ip),
     ]
+}
+
+/// A classifier of its own address and all classifiers' ports.
+fn classifier_children(number: u16) -> Vec<Vec<u8>> {
+    classifier_of(number, number as u8, 0x1000..=0x1FFF)
 }
 
 fn rule_children(number: u8, numbers: &[u16]) -> Vec<Vec<u8>> {
@@ -74,6 +82,29 @@ pub fn table_message(rules: u8) -> Vec<u8> {
     for n in 0..rules {
         message.extend(row(50, &rule_children(n, &numbers_of(n))));
     }
+    message
+}
+
+/// The destination of every classifier of [`ports_message`], and the port that all of them take.
+pub const PORTS_DESTINATION: u8 = 1;
+pub const PORTS_MIDDLE: u16 = 0x1800;
+
+/// How far from the middle the ports of the `place`th classifier go, in matching order from 1 on.
+pub fn ports_reach(place: u16) -> u16 {
+    0x100 * place
+}
+
+/// A message with rule 9 alone and eight classifiers of one address, each of whose ranges is within the next one's.
+pub fn ports_message() -> Vec<u8> {
+    let mut message = configuration();
+    for number in 1..=8 {
+        // the greatest number has the greatest priority
+        let reach = ports_reach(9 - number);
+        let ports = PORTS_MIDDLE - reach..=PORTS_MIDDLE + reach;
+        message.extend(row(23, &classifier_of(number, PORTS_DESTINATION, ports)));
+    }
+    let numbers: Vec<u16> = (1..=8).collect();
+    message.extend(row(50, &rule_children(9, &numbers)));
     message
 }
 
@@ -118,6 +149,12 @@ pub fn frame(number: u8, destination: u8, port: u16) -> Vec<u8> {
     frame[26..30].copy_from_slice(&[10, 1, 2, 9]);
     frame[30..34].copy_from_slice(&[239, 1, 2, destination]);
     frame[36..38].copy_from_slice(&port.to_be_bytes());
+    frame
+}
+
+/// The frame with a protocol that has no ports.
+pub fn without_port(mut frame: Vec<u8>) -> Vec<u8> {
+    frame[23] = 1;
     frame
 }
 

@@ -6,7 +6,8 @@ use dsg::ffi;
 use dsg::records::Client;
 use dsg::{Collection, Event, Modem, Table, Tunnel, BUFFER_BYTES};
 use measure::inputs::{
-    frame, long_rows, sixteen_bodies, table_message, unlisted, with_alert, LONGEST,
+    frame, long_rows, ports_message, ports_reach, sixteen_bodies, table_message, unlisted,
+    with_alert, without_port, LONGEST, PORTS_DESTINATION, PORTS_MIDDLE,
 };
 use measure::plain;
 use measure::rounds::{medians, print_line, report, runner};
@@ -20,12 +21,14 @@ fn client(n: u8) -> Client {
     }
 }
 
-fn full_table() -> Table {
+fn table_of(message: &[u8]) -> Table {
     let mut table = Table::default();
+    table.read(message).expect("the message is accepted");
     table
-        .read(&table_message(32))
-        .expect("the full table is accepted");
-    table
+}
+
+fn full_table() -> Table {
+    table_of(&table_message(32))
 }
 
 fn reading(what: &str, message: &[u8]) {
@@ -177,10 +180,7 @@ fn again<T>(bodies: &[Vec<u8>], mut take: impl FnMut(&[u8]) -> T) {
 }
 
 fn choosing(rules: u8) {
-    let mut table = Table::default();
-    table
-        .read(&table_message(rules))
-        .expect("the table is accepted");
+    let table = table_of(&table_message(rules));
     report(
         &format!("choosing, {rules} rules of 8 clients"),
         1,
@@ -249,27 +249,53 @@ fn judging() {
     }
 }
 
-fn judging_prepared() {
-    let table = full_table();
-    let ours = Tunnel::prepare(&table, dsg::ClientId::Application(0x0903), Some(4));
-    let theirs = plain::judge::prepare_tunnel(&table, client(9), Some(4));
-    for (name, frame) in frames() {
+/// Frames for the tunnel of rule 9, judged with that tunnel, which was prepared beforehand.
+fn judging_with(what: &str, table: &Table, frames: &[(&str, Vec<u8>)]) {
+    let ours = Tunnel::prepare(table, dsg::ClientId::Application(0x0903), Some(4));
+    let theirs = plain::judge::prepare_tunnel(table, client(9), Some(4));
+    for (name, frame) in frames {
         report(
-            &format!("judging with a prepared tunnel, {name}"),
+            &format!("{what}, {name}"),
             1,
             vec![
                 runner("library", || {
-                    black_box(ffi::judge_prepared(black_box(&ours), black_box(&frame)));
+                    black_box(ffi::judge_prepared(black_box(&ours), black_box(frame)));
                 }),
                 runner("plain", || {
                     black_box(plain::judge::judge_prepared(
                         black_box(&theirs),
-                        black_box(&frame),
+                        black_box(frame),
                     ));
                 }),
             ],
         );
     }
+}
+
+/// Frames for a tunnel of eight entries of one address: its ports are tested ahead of the addresses.
+fn judging_ports() {
+    let at = |port| frame(9, PORTS_DESTINATION, port);
+    let last = PORTS_MIDDLE + ports_reach(8);
+    let frames = [
+        ("all miss on the port", at(last + 1)),
+        ("forward by the last", at(last)),
+        ("forward by the first", at(PORTS_MIDDLE)),
+        ("a frame without a port", without_port(at(PORTS_MIDDLE))),
+        (
+            "all miss on the destination",
+            frame(9, PORTS_DESTINATION + 1, PORTS_MIDDLE),
+        ),
+    ];
+    judging_with(
+        "judging by eight ports",
+        &table_of(&ports_message()),
+        &frames,
+    );
+}
+
+fn judging_prepared() {
+    let table = full_table();
+    judging_with("judging with a prepared tunnel", &table, &frames());
     report(
         "preparing a tunnel in a full table",
         1,
@@ -371,6 +397,7 @@ fn judging_all() {
     }
     judging();
     judging_prepared();
+    judging_ports();
 }
 
 /// What can be measured, by the word that names it.

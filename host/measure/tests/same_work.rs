@@ -4,7 +4,8 @@ use dsg::lent::{self, Piece, Verdict};
 use dsg::records::Client;
 use dsg::{Collection, Event, Modem, Table, BUFFER_BYTES};
 use measure::inputs::{
-    frame, long_rows, sixteen_bodies, table_message, unlisted, with_alert, LONGEST,
+    frame, long_rows, ports_message, ports_reach, sixteen_bodies, table_message, unlisted,
+    with_alert, without_port, LONGEST, PORTS_DESTINATION, PORTS_MIDDLE,
 };
 use measure::plain;
 
@@ -84,8 +85,11 @@ fn collects_the_same_messages() {
 #[test]
 fn judges_alike_with_and_without_a_prepared_tunnel() {
     use plain::judge::Verdict as Plain;
-    let mut table = Table::default();
-    table.read(&table_message(32)).expect("accepted");
+    let tables = [table_message(32), ports_message()].map(|message| {
+        let mut table = Table::default();
+        table.read(&message).expect("accepted");
+        table
+    });
     let mut frames = vec![
         frame(9, 17, 0x1234),
         frame(8, 17, 0x1234),
@@ -104,14 +108,24 @@ fn judges_alike_with_and_without_a_prepared_tunnel() {
         frame[14] = 0x40 | words;
         frames.push(frame);
     }
-    for (rule, frame) in (0..34u8).flat_map(|rule| frames.iter().map(move |f| (rule, f))) {
+    let at = |port| frame(9, PORTS_DESTINATION, port);
+    for reach in (0..=8).map(ports_reach) {
+        let (first, last) = (PORTS_MIDDLE - reach, PORTS_MIDDLE + reach);
+        frames.extend([first - 1, first, last, last + 1].map(at));
+    }
+    frames.push(frame(9, PORTS_DESTINATION + 1, PORTS_MIDDLE));
+    frames.push(without_port(at(PORTS_MIDDLE)));
+    let cases = frames
+        .iter()
+        .flat_map(|frame| tables.iter().map(move |table| (table, frame)));
+    for ((table, frame), rule) in cases.flat_map(|case| (0..34u8).map(move |rule| (case, rule))) {
         let client = Client {
             kind: 4,
             value: u64::from(rule) << 8 | 3,
         };
         for ucid in [None, Some(4), Some(99)] {
-            let ours = lent::judge_frame(&table, client, ucid, frame);
-            let theirs = match plain::judge::judge_frame(&table, client, ucid, frame) {
+            let ours = lent::judge_frame(table, client, ucid, frame);
+            let theirs = match plain::judge::judge_frame(table, client, ucid, frame) {
                 Plain::Refused(number) => Err(number),
                 Plain::Other => Ok(Verdict::Other),
                 Plain::Filtered => Ok(Verdict::Filtered),
@@ -121,10 +135,10 @@ fn judges_alike_with_and_without_a_prepared_tunnel() {
                 }),
             };
             assert_eq!(ours.map_err(|r| r.number), theirs);
-            let prepared = lent::prepare_tunnel(&table, client, ucid).judge(frame);
+            let prepared = lent::prepare_tunnel(table, client, ucid).judge(frame);
             assert_eq!(prepared, ours);
-            let chosen = lent::choose_rule(&table, client, ucid).ok();
-            assert_eq!(chosen, plain::judge::choose_rule(&table, client, ucid));
+            let chosen = lent::choose_rule(table, client, ucid).ok();
+            assert_eq!(chosen, plain::judge::choose_rule(table, client, ucid));
         }
     }
 }
