@@ -1,7 +1,9 @@
 //! Random clients and frames for a lent table: ones that fit, and ones that nearly do.
 
-use crate::headers::{disturb, frame_for, names_port};
+use crate::headers::{disturb, frame_for};
 use crate::messages::message_of;
+use crate::misses::levelled;
+use crate::packets::names_port;
 use crate::random::Random;
 use crate::tables::{client, free_table, full_table, marked_table, sound_table, ucid};
 use reference::protocol::request::Request;
@@ -67,7 +69,8 @@ fn near_ucid(random: &mut Random, rule: Option<&Rule>) -> Option<u8> {
     }
 }
 
-/// A frame for the rule's tunnel and one of its classifiers, as it is or nearly so.
+/// A frame for the rule's tunnel and one of its classifiers, as it is or nearly so; of those that miss
+/// a third misses on each of port, address and both.
 fn near_frame(random: &mut Random, table: &Table, rule: Option<&Rule>) -> Vec<u8> {
     let tunnel = rule.map_or([0xFF; 6], |rule| rule.tunnel);
     let named = |c: &&Classifier| rule.is_some_and(|rule| rule.classifiers.contains(&c.number));
@@ -77,7 +80,7 @@ fn near_frame(random: &mut Random, table: &Table, rule: Option<&Rule>) -> Vec<u8
     for _ in 0..random.pick(&[0, 0, 0, 1, 1, 1, 2]) {
         disturb(random, &mut frame);
     }
-    frame
+    levelled(random, frame, tunnel, &candidates)
 }
 
 /// One of the classifiers, if there are any; often one that names no port, if there is one.

@@ -1,16 +1,9 @@
 //! Random frames with an IPv4 header: ones that a classifier matches, and changes that it may notice.
 
+use crate::packets::{header_end, names_port, range_of, source_test};
+use crate::packets::{DESTINATION, LEAST_END, SOURCE};
 use crate::random::Random;
 use reference::table::Classifier;
-
-/// Where the port stands behind a header without options.
-const PORT_OF_5_WORDS: usize = 36;
-
-/// Where the IP header of a frame ends, by the length that its first byte gives.
-pub fn header_end(frame: &[u8]) -> Option<usize> {
-    let first = frame.get(14)?;
-    Some(14 + 4 * usize::from(first & 15))
-}
 
 /// A frame with an IPv4 header of 5 to 15 words, two ports behind it and four bytes more or none. In
 /// the options there may be another port, where it would stand without them. For a classifier that
@@ -28,20 +21,16 @@ pub fn frame_for(random: &mut Random, tunnel: [u8; 6], classifier: Option<&Class
     let Some(classifier) = classifier else {
         return frame;
     };
-    frame[26..30].copy_from_slice(&source_for(random, classifier));
-    frame[30..34].copy_from_slice(&classifier.destination);
+    frame[SOURCE..SOURCE + 4].copy_from_slice(&source_for(random, classifier));
+    frame[DESTINATION..DESTINATION + 4].copy_from_slice(&classifier.destination);
     if random.once_in(2) {
-        put_port(&mut frame, PORT_OF_5_WORDS, port_for(random, classifier));
+        put_port(&mut frame, LEAST_END, port_for(random, classifier));
     }
-    put_port(&mut frame, end + 2, port_for(random, classifier));
+    put_port(&mut frame, end, port_for(random, classifier));
     if !names_port(classifier) && random.once_in(2) {
         end_about_header(random, &mut frame);
     }
     frame
-}
-
-pub fn names_port(classifier: &Classifier) -> bool {
-    classifier.port_start.is_some() || classifier.port_end.is_some()
 }
 
 /// The words of a header, half the time without options.
@@ -50,13 +39,10 @@ fn words(random: &mut Random) -> usize {
     random.pick(&[5, 5, 5, 5, 5, 6, 15, any, any, any])
 }
 
-/// A source that the classifier's mask maps to its address, where there is one.
+/// A source that the classifier's mask maps to its address, if the mask has all bits of that.
 fn source_for(random: &mut Random, classifier: &Classifier) -> [u8; 4] {
     let any = (random.word() as u32).to_be_bytes();
-    let Some(wanted) = classifier.source else {
-        return any;
-    };
-    let mask = classifier.mask.unwrap_or([255; 4]);
+    let [mask, wanted] = source_test(classifier);
     std::array::from_fn(|i| wanted[i] | any[i] & !mask[i])
 }
 
@@ -68,14 +54,19 @@ fn port_for(random: &mut Random, classifier: &Classifier) -> u16 {
     if !outside.is_empty() && random.once_in(3) {
         return random.pick(&outside);
     }
-    let start = classifier.port_start.unwrap_or(0);
-    let end = classifier.port_end.unwrap_or(65_535);
+    port_between(random, classifier)
+}
+
+/// A port at an end of the classifier's range or between its ends: inside, if the range is not empty.
+pub fn port_between(random: &mut Random, classifier: &Classifier) -> u16 {
+    let (start, end) = range_of(classifier).into_inner();
     let between = random.between(start.min(end).into(), start.max(end).into()) as u16;
     random.pick(&[start, end, between])
 }
 
-fn put_port(frame: &mut [u8], at: usize, port: u16) {
-    frame[at..at + 2].copy_from_slice(&port.to_be_bytes());
+/// Puts a destination port behind a header that ends there.
+pub fn put_port(frame: &mut [u8], end: usize, port: u16) {
+    frame[end + 2..end + 4].copy_from_slice(&port.to_be_bytes());
 }
 
 /// Makes one change that a classifier or the frame's own tests may notice.
@@ -86,10 +77,7 @@ pub fn disturb(random: &mut Random, frame: &mut Vec<u8>) {
         2 | 3 => end_about_header(random, frame),
         4 | 5 => change_words(random, frame),
         6 => move_port(random, frame),
-        7 => {
-            let protocol = random.pick(&[0, 1, 5, 7, 16, 18]);
-            change_byte(frame, 23, |_| protocol);
-        }
+        7 => set_protocol(random, frame),
         8 | 9 => set_fragment_offset(random, frame),
         _ => flip_bit(random, frame),
     }
@@ -119,8 +107,14 @@ fn move_port(random: &mut Random, frame: &mut [u8]) {
     }
 }
 
+/// Gives the frame a protocol without ports.
+pub fn set_protocol(random: &mut Random, frame: &mut [u8]) {
+    let protocol = random.pick(&[0, 1, 5, 7, 16, 18]);
+    change_byte(frame, 23, |_| protocol);
+}
+
 /// Makes the frame a later fragment, at an end of the offset's range.
-fn set_fragment_offset(random: &mut Random, frame: &mut [u8]) {
+pub fn set_fragment_offset(random: &mut Random, frame: &mut [u8]) {
     let [high, low] = random.pick(&[[0x00, 0x01], [0x20, 0x01], [0x10, 0x00], [0x1F, 0xFF]]);
     change_byte(frame, 20, |_| high);
     change_byte(frame, 21, |_| low);
@@ -134,7 +128,8 @@ fn flip_bit(random: &mut Random, frame: &mut [u8]) {
     change_byte(frame, at, |byte| byte ^ bit);
 }
 
-fn change_byte(frame: &mut [u8], at: usize, change: impl Fn(u8) -> u8) {
+/// Changes the byte at a place, if the frame has it.
+pub fn change_byte(frame: &mut [u8], at: usize, change: impl Fn(u8) -> u8) {
     if let Some(byte) = frame.get_mut(at) {
         *byte = change(*byte);
     }

@@ -1,7 +1,8 @@
 //! Makes bench requests from a seed, and compares the answers that programs give to them.
 //!
 //!   generator    requests of an area, scenario by scenario
-//!   pieces, receiving, messages, rows, tables, frames, headers, events   the scenarios' parts
+//!   pieces, receiving, messages, rows, tables, frames, headers, misses, events   the scenarios' parts
+//!   packets      what classifiers look at in a frame
 //!   random       the numbers behind them
 //!   programs     a program that answers requests through pipes
 //!   tally        how often each answer, row and broken record was seen
@@ -17,6 +18,8 @@ pub mod frames;
 pub mod generator;
 pub mod headers;
 pub mod messages;
+pub mod misses;
+pub mod packets;
 pub mod pieces;
 pub mod programs;
 pub mod random;

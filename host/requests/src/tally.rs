@@ -6,6 +6,8 @@
 //!   lent          tables that become lent, by what they hold and where they come from
 //!   questions     what is asked of them, by what decides the answer
 //!   headers       frames that classifiers were asked about, by IP header and port
+//!   sources       the same, by source and mask
+//!   misses        those that none matched, by what they miss on
 //!   marks         which parts a classifier has
 //!   modems        rows of the modem's table, broken records, timers about their ends
 //!
@@ -17,8 +19,10 @@ mod collections;
 mod headers;
 mod lent;
 mod marks;
+mod misses;
 mod modems;
 mod questions;
+mod sources;
 
 use collections::Collections;
 use lent::Lent;
@@ -40,6 +44,8 @@ impl Default for Tally {
             .chain(lent::lines())
             .chain(questions::lines())
             .chain(headers::lines())
+            .chain(sources::lines())
+            .chain(misses::lines())
             .chain(modems::lines());
         Tally {
             counts: lines.map(|line| (line, 0)).collect(),

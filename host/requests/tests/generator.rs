@@ -95,6 +95,23 @@ fn every_line_about_lent_tables_is_seen_in_10000_requests_of_judging() {
         NONE
     );
     assert_eq!(missed(&tally, |line| line.starts_with("header: ")), NONE);
+    assert_eq!(missed(&tally, |line| line.starts_with("source: ")), NONE);
+    assert_eq!(missed(&tally, |line| line.starts_with("miss: ")), NONE);
+}
+
+#[test]
+fn a_third_of_the_misses_is_on_the_port_on_an_address_and_on_both() {
+    for seed in 1..=3 {
+        let tally = tallied(seed, Area::Judge, 60_000);
+        let kinds = ["the port", "an address", "both"];
+        let counts = kinds.map(|kind| tally.of(&format!("miss: on {kind}")));
+        let all: u64 = counts.iter().sum();
+        assert!(all >= 9_000, "{all}");
+        for count in counts {
+            let share = 100 * count;
+            assert!((31 * all..=36 * all).contains(&share), "{counts:?}");
+        }
+    }
 }
 
 /// The frames that classifiers let pass, and those that they did not.
@@ -113,6 +130,14 @@ fn frames_judged(seed: u64, count: usize) -> [Vec<Vec<u8>>; 2] {
         }
     }
     judged
+}
+
+#[test]
+fn classifiers_let_17_in_100_of_the_judged_frames_pass() {
+    let [passed, _] = frames_judged(1, 60_000).map(|frames| frames.len());
+    let requests = made(1, Area::Judge, 60_000);
+    let judged = requests.iter().filter(|r| matches!(r, Request::Judge(..)));
+    assert!(100 * passed >= 17 * judged.count(), "{passed}");
 }
 
 #[test]

@@ -1,74 +1,17 @@
 //! What the tally says of frames by their IP header. Each frame is written out by hand, with what
 //! becomes of it by Req 02 of document 02.
 
-use reference::protocol::request::Request;
-use reference::protocol::Session;
-use reference::table::{Classifier, Client, Rule, Table};
-use requests::tally::Tally;
+mod support;
 
-const CLIENT: Client = Client::Application(42);
-const TUNNEL: [u8; 6] = [0x01, 0x00, 0x5E, 0x05, 0x05, 0x05];
-const DESTINATION: [u8; 4] = [224, 0, 0, 9];
-const ROUTER_ALERT: [u8; 4] = [0x94, 0x04, 0x00, 0x00];
+use reference::table::Table;
+use support::{frame, table, ROUTER_ALERT};
+
 const PORT_1000: [u8; 4] = [0x00, 0x00, 0x03, 0xE8];
-
-/// A table of one rule and one classifier, which names these ports.
-fn table(start: Option<u16>, end: Option<u16>) -> Table {
-    Table {
-        rules: vec![Rule {
-            number: 1,
-            priority: 0,
-            tunnel: TUNNEL,
-            ucids: vec![],
-            clients: vec![CLIENT],
-            classifiers: vec![7],
-        }],
-        classifiers: vec![Classifier {
-            number: 7,
-            priority: 0,
-            source: None,
-            mask: None,
-            destination: DESTINATION,
-            port_start: start,
-            port_end: end,
-        }],
-        ..Table::default()
-    }
-}
-
-/// A UDP frame with a header of so many words, of which those behind the fifth are `option`, two
-/// ports and four bytes more.
-fn frame(words: u8, option: [u8; 4], port: u16) -> Vec<u8> {
-    let mut frame = TUNNEL.to_vec();
-    frame.extend([0; 6]);
-    frame.extend([0x08, 0x00]);
-    frame.extend([0x40 + words, 0, 0, 0, 0, 0, 0, 0, 0, 17, 0, 0]);
-    frame.extend([10, 0, 0, 1]);
-    frame.extend(DESTINATION);
-    for _ in 5..words {
-        frame.extend(option);
-    }
-    let [high, low] = port.to_be_bytes();
-    frame.extend([0, 0, high, low, 0, 0, 0, 0]);
-    frame
-}
 
 /// The lines about headers that a frame adds to, without their first and last words. The last one is
 /// what becomes of the frame.
 fn cases(table: Table, frame: Vec<u8>, outcome: &str) -> Vec<String> {
-    let (mut session, mut tally) = (Session::default(), Tally::default());
-    let mut answer = String::new();
-    for request in [Request::TSet(table), Request::Judge(CLIENT, None, frame)] {
-        answer = session.answer(request.clone());
-        tally.count(&request, &answer);
-    }
-    assert_eq!(answer.split(' ').next(), Some(outcome));
-    let seen = tally.lines().filter(|&(_, count)| count > 0);
-    let headers = seen.filter_map(|(line, _)| line.strip_prefix("header: "));
-    let ending = format!(": {outcome}");
-    headers
-        .map(|line| line.strip_suffix(&ending).unwrap_or(line).to_string())
-        .collect()
+    support::cases("header: ", table, frame, outcome)
 }
 
 #[test]
@@ -148,6 +91,15 @@ fn tells_a_header_under_5_words() {
     let free = ["04 words", "under 5 words, no port named"];
     assert_eq!(cases(table(None, None), frame.clone(), "filtered"), free);
     assert_eq!(cases(table(Some(0), None), frame, "filtered"), ["04 words"]);
+}
+
+#[test]
+fn tells_a_protocol_without_ports() {
+    let mut icmp = frame(5, ROUTER_ALERT, 1_000);
+    icmp[23] = 1;
+    let free = ["05 words", "protocol without ports, no port named"];
+    assert_eq!(cases(table(None, None), icmp.clone(), "forward"), free);
+    assert_eq!(cases(table(Some(0), None), icmp, "filtered"), ["05 words"]);
 }
 
 #[test]

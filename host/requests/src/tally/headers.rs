@@ -6,7 +6,8 @@
 
 mod ports;
 
-use crate::headers::{header_end, names_port};
+use crate::packets::{addresses_fit, has_ports, header_end, is_fragment, is_ipv4, names_port};
+use crate::packets::{port_behind, port_of, range_of, LEAST_END};
 use reference::table::Classifier;
 
 /// What can become of a frame.
@@ -27,16 +28,18 @@ const ENDS: [(isize, bool, Outcomes); 8] = [
     (4, false, FORWARD),
     (4, true, EITHER),
 ];
-const CASES: [(&str, Outcomes); 5] = [
+const CASES: [(&str, Outcomes); 6] = [
     (SHORT_UNASKED, FORWARD),
     (PAST_UNASKED, FORWARD),
     (SHORT, FILTERED),
+    (OTHER_PROTOCOL, FORWARD),
     (FRAGMENT, FORWARD),
     (FRAGMENT_INSIDE, FILTERED),
 ];
 const SHORT_UNASKED: &str = "under 5 words, no classifier named";
 const PAST_UNASKED: &str = "past the frame's end, no classifier named";
 const SHORT: &str = "under 5 words, no port named";
+const OTHER_PROTOCOL: &str = "protocol without ports, no port named";
 const FRAGMENT: &str = "options, fragment offset, no port named";
 const FRAGMENT_INSIDE: &str = "options, fragment offset, port inside the range";
 
@@ -72,7 +75,7 @@ pub fn seen(frame: &[u8], classifier: &Classifier, outcome: &str) -> Vec<String>
 pub fn seen_unasked(frame: &[u8], outcome: &str) -> Vec<String> {
     let end = header_end(frame).filter(|_| is_ipv4(frame));
     let cases = [
-        end.and_then(|end| when(end < 34, SHORT_UNASKED)),
+        end.and_then(|end| when(end < LEAST_END, SHORT_UNASKED)),
         end.and_then(|end| when(end > frame.len(), PAST_UNASKED)),
     ];
     let cases = cases.iter().flatten();
@@ -94,10 +97,7 @@ struct Fitting<'q> {
 
 impl<'q> Fitting<'q> {
     fn of(frame: &'q [u8], classifier: &'q Classifier) -> Option<Fitting<'q>> {
-        let fits = frame.len() >= 34
-            && is_ipv4(frame)
-            && source_fits(classifier, &frame[26..30])
-            && frame[30..34] == classifier.destination;
+        let fits = is_ipv4(frame) && addresses_fit(classifier, frame);
         let end = header_end(frame).filter(|_| fits)?;
         Some(Fitting {
             frame,
@@ -121,33 +121,33 @@ impl<'q> Fitting<'q> {
     }
 
     fn options(&self) -> bool {
-        self.end > 34
-    }
-
-    fn is_fragment(&self) -> bool {
-        pair(self.frame, 20).is_some_and(|word| word & 0x1FFF != 0)
+        self.end > LEAST_END
     }
 
     /// The cases of a classifier that names no port.
     fn cases_without_port(&self) -> Vec<String> {
         let whole = self.end <= self.frame.len();
-        let fragment = whole && self.options() && self.is_fragment();
-        let cases = [self.end_case(false), when(fragment, FRAGMENT)];
+        let fragment = whole && self.options() && is_fragment(self.frame);
+        let cases = [
+            self.end_case(false),
+            when(whole && !has_ports(self.frame), OTHER_PROTOCOL),
+            when(fragment, FRAGMENT),
+        ];
         cases.into_iter().flatten().collect()
     }
 
     /// The cases of a classifier that names one, if the protocol has ports.
     fn cases_with_port(&self) -> Vec<String> {
-        let port = pair(self.frame, self.end + 2);
-        if ![6, 17].contains(&self.frame[23]) {
+        let port = port_of(self.frame);
+        if !has_ports(self.frame) {
             return Vec::new();
         }
-        if self.is_fragment() {
-            let range = ports::range_of(self.classifier);
+        if is_fragment(self.frame) {
+            let range = range_of(self.classifier);
             let inside = port.is_some_and(|port| range.contains(&port));
             return Vec::from_iter(when(self.options() && inside, FRAGMENT_INSIDE));
         }
-        let other = pair(self.frame, 36).filter(|_| self.options());
+        let other = port_behind(self.frame, LEAST_END).filter(|_| self.options());
         let ports = port.map(|port| ports::cases(self.classifier, port, other));
         let ends = self.end_case(true);
         ends.into_iter()
@@ -160,20 +160,4 @@ impl<'q> Fitting<'q> {
         let shown = self.options() && ENDS.iter().any(|&(listed, ..)| listed == behind);
         shown.then(|| end_case(behind, named))
     }
-}
-
-fn is_ipv4(frame: &[u8]) -> bool {
-    frame.len() > 14 && frame[12..14] == [0x08, 0x00] && frame[14] >> 4 == 4
-}
-
-fn source_fits(classifier: &Classifier, source: &[u8]) -> bool {
-    let mask = classifier.mask.unwrap_or([255; 4]);
-    let wanted_at = |wanted: [u8; 4]| (0..4).all(|i| source[i] & mask[i] == wanted[i]);
-    classifier.source.is_none_or(wanted_at)
-}
-
-/// The number at a place, if the frame has its two bytes.
-fn pair(frame: &[u8], at: usize) -> Option<u16> {
-    let bytes = frame.get(at..at + 2)?.try_into().ok()?;
-    Some(u16::from_be_bytes(bytes))
 }

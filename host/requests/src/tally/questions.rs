@@ -1,9 +1,10 @@
 //! Questions about a lent table, by what decides the answer: a UCID at an end of its range or none,
 //! the broadcast clients of value 0 and of length 0, the last place of a full list, a classifier with
-//! some of its parts, the header of a frame (`headers`).
+//! some of its parts, the header of a frame (`headers`), its source (`sources`), what it misses on
+//! (`misses`).
 
-use super::headers;
 use super::marks::{all_marks, marks_line, marks_of};
+use super::{headers, misses, sources};
 use reference::choosing::choose_rule;
 use reference::protocol::tables::write_client;
 use reference::protocol::words::or_dash;
@@ -81,9 +82,14 @@ impl<'t> Question<'t> {
             let said = format!("judge: {}", words[0]);
             let rule = &self.table.rules[chosen];
             let frame = self.frame.unwrap_or_default();
-            for classifier in self.judged(rule, &words) {
+            let judged = self.judged(rule, &words);
+            for classifier in &judged {
                 lines.push(marks_line(&said, marks_of(classifier)));
                 lines.extend(headers::seen(frame, classifier, words[0]));
+                lines.extend(sources::seen(frame, classifier, words[0]));
+            }
+            if words[0] == "filtered" {
+                lines.extend(misses::seen(frame, &judged));
             }
             if rule.classifiers.is_empty() && words[0] == "forward" {
                 lines.extend(headers::seen_unasked(frame, words[0]));

@@ -1,8 +1,8 @@
 //! The port behind a header, about the ends of the range that a classifier names.
 
 use super::{when, Outcomes, FILTERED, FORWARD};
+use crate::packets::range_of;
 use reference::table::Classifier;
-use std::ops::RangeInclusive;
 
 /// Ports about the ends of a range that is not empty.
 const PLACES: [(&str, Outcomes); 4] = [
@@ -36,10 +36,6 @@ pub fn all_cases() -> impl Iterator<Item = (String, Outcomes)> {
 fn place_case(place: &str, options: bool) -> String {
     let options = if options { "options" } else { "no options" };
     format!("{options}, port {place}")
-}
-
-pub fn range_of(classifier: &Classifier) -> RangeInclusive<u16> {
-    classifier.port_start.unwrap_or(0)..=classifier.port_end.unwrap_or(u16::MAX)
 }
 
 /// The cases of a port. If the header has options, `other` is what stands where the port would be
