@@ -42,7 +42,7 @@ fn classifier_of(number: u16, destination: u8, ports: RangeInclusive<u16>) -> Ve
     ]
 }
 
-/// A classifier of its own address and all classifiers' ports.
+/// A classifier with an address of its own and the ports of all others.
 fn classifier_children(number: u16) -> Vec<Vec<u8>> {
     classifier_of(number, number as u8, 0x1000..=0x1FFF)
 }
@@ -85,22 +85,22 @@ pub fn table_message(rules: u8) -> Vec<u8> {
     message
 }
 
-/// The destination of every classifier of [`ports_message`], and the port that all of them take.
+/// The destination of every classifier of [`ports_message`].
 pub const PORTS_DESTINATION: u8 = 1;
-pub const PORTS_MIDDLE: u16 = 0x1800;
 
-/// How far from the middle the ports of the `place`th classifier go, in matching order from 1 on.
-pub fn ports_reach(place: u16) -> u16 {
-    0x100 * place
+/// The ports of the `place`th classifier of [`ports_message`] in matching order, from 0 on: a range behind the one
+/// before it, with a gap between the two.
+pub fn ports_at(place: u16) -> RangeInclusive<u16> {
+    let start = 0x1000 + 0x200 * place;
+    start..=start + 0xFF
 }
 
-/// A message with rule 9 alone and eight classifiers of one address, each of whose ranges is within the next one's.
+/// A message with rule 9 alone and eight classifiers of one address, each with ports of its own.
 pub fn ports_message() -> Vec<u8> {
     let mut message = configuration();
     for number in 1..=8 {
         // the greatest number has the greatest priority
-        let reach = ports_reach(9 - number);
-        let ports = PORTS_MIDDLE - reach..=PORTS_MIDDLE + reach;
+        let ports = ports_at(8 - number);
         message.extend(row(23, &classifier_of(number, PORTS_DESTINATION, ports)));
     }
     let numbers: Vec<u16> = (1..=8).collect();

@@ -6,8 +6,8 @@ use dsg::ffi;
 use dsg::records::Client;
 use dsg::{Collection, Event, Modem, Table, Tunnel, BUFFER_BYTES};
 use measure::inputs::{
-    frame, long_rows, ports_message, ports_reach, sixteen_bodies, table_message, unlisted,
-    with_alert, without_port, LONGEST, PORTS_DESTINATION, PORTS_MIDDLE,
+    frame, long_rows, ports_at, ports_message, sixteen_bodies, table_message, unlisted, with_alert,
+    without_port, LONGEST, PORTS_DESTINATION,
 };
 use measure::plain;
 use measure::rounds::{medians, print_line, report, runner};
@@ -249,6 +249,9 @@ fn judging() {
     }
 }
 
+/// How many frames a call judges with a prepared tunnel, one after the other as a board does.
+const FRAMES: usize = 16;
+
 /// Frames for the tunnel of rule 9, judged with that tunnel, which was prepared beforehand.
 fn judging_with(what: &str, table: &Table, frames: &[(&str, Vec<u8>)]) {
     let ours = Tunnel::prepare(table, dsg::ClientId::Application(0x0903), Some(4));
@@ -256,34 +259,36 @@ fn judging_with(what: &str, table: &Table, frames: &[(&str, Vec<u8>)]) {
     for (name, frame) in frames {
         report(
             &format!("{what}, {name}"),
-            1,
+            FRAMES,
             vec![
                 runner("library", || {
-                    black_box(ffi::judge_prepared(black_box(&ours), black_box(frame)));
+                    for _ in 0..FRAMES {
+                        black_box(ffi::judge_prepared(black_box(&ours), black_box(frame)));
+                    }
                 }),
                 runner("plain", || {
-                    black_box(plain::judge::judge_prepared(
-                        black_box(&theirs),
-                        black_box(frame),
-                    ));
+                    for _ in 0..FRAMES {
+                        let verdict =
+                            plain::judge::judge_prepared(black_box(&theirs), black_box(frame));
+                        black_box(verdict);
+                    }
                 }),
             ],
         );
     }
 }
 
-/// Frames for a tunnel of eight entries of one address: its ports are tested ahead of the addresses.
+/// Frames for a tunnel of eight entries of one address, each with ports of its own: half of them miss on their end and
+/// half on their start, or all but one do. (Eight entries of one range that miss on the address: "filtered" above.)
 fn judging_ports() {
-    let at = |port| frame(9, PORTS_DESTINATION, port);
-    let last = PORTS_MIDDLE + ports_reach(8);
+    let at = |port: &u16| frame(9, PORTS_DESTINATION, *port);
     let frames = [
-        ("all miss on the port", at(last + 1)),
-        ("forward by the last", at(last)),
-        ("forward by the first", at(PORTS_MIDDLE)),
-        ("a frame without a port", without_port(at(PORTS_MIDDLE))),
+        ("all miss on the port", at(&(ports_at(4).start() - 1))),
+        ("forward by the last", at(ports_at(7).start())),
+        ("forward by the first", at(ports_at(0).start())),
         (
-            "all miss on the destination",
-            frame(9, PORTS_DESTINATION + 1, PORTS_MIDDLE),
+            "a frame without a port",
+            without_port(at(ports_at(0).start())),
         ),
     ];
     judging_with(

@@ -4,8 +4,8 @@ use dsg::lent::{self, Piece, Verdict};
 use dsg::records::Client;
 use dsg::{Collection, Event, Modem, Table, BUFFER_BYTES};
 use measure::inputs::{
-    frame, long_rows, ports_message, ports_reach, sixteen_bodies, table_message, unlisted,
-    with_alert, without_port, LONGEST, PORTS_DESTINATION, PORTS_MIDDLE,
+    frame, long_rows, ports_at, ports_message, sixteen_bodies, table_message, unlisted, with_alert,
+    without_port, LONGEST, PORTS_DESTINATION,
 };
 use measure::plain;
 
@@ -108,13 +108,13 @@ fn judges_alike_with_and_without_a_prepared_tunnel() {
         frame[14] = 0x40 | words;
         frames.push(frame);
     }
-    let at = |port| frame(9, PORTS_DESTINATION, port);
-    for reach in (0..=8).map(ports_reach) {
-        let (first, last) = (PORTS_MIDDLE - reach, PORTS_MIDDLE + reach);
-        frames.extend([first - 1, first, last, last + 1].map(at));
+    for ports in (0..8).map(ports_at) {
+        let (start, end) = ports.into_inner();
+        let at = |port| frame(9, PORTS_DESTINATION, port);
+        frames.extend([start - 1, start, end, end + 1].map(at));
+        frames.push(frame(9, PORTS_DESTINATION + 1, start));
+        frames.push(without_port(at(start)));
     }
-    frames.push(frame(9, PORTS_DESTINATION + 1, PORTS_MIDDLE));
-    frames.push(without_port(at(PORTS_MIDDLE)));
     let cases = frames
         .iter()
         .flat_map(|frame| tables.iter().map(move |table| (table, frame)));

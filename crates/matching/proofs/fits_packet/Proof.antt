@@ -18,9 +18,9 @@ returns-2 c = simp (ne-eqb _ _ (c .if2 .taken))
 returns-3 : tie.Need-returns-3
 unfolding fitsPacket
 returns-3 c =
-    let second = c .before in
+    let second = c .before .before .before in
     let first = second .before .before .before in
-    simp (c .source-fits .ensures, ← first .before .port-passes .ensures, not-false (first .before .port-passes .result) (first .if1 .left), eq-eqb _ _ (second .if2 .left), and-true)
+    simp (← first .before .port-passes .ensures, not-false (first .before .port-passes .result) (first .if1 .left), eq-eqb _ _ (second .if2 .left), and-true)
 
 pub fits-packet-spec : {M : Type 1} → statement M
-fits-packet-spec = tie.close (tie.spec (λ c κs. search needs) returns returns-2 (λ c κs. search needs) returns-3)
+fits-packet-spec = tie.close (tie.spec (λ c κs. search needs) returns returns-2 returns-3)
