@@ -205,15 +205,15 @@ fn choosing(rules: u8) {
     );
 }
 
-/// Frames for the tunnel of rule 9: one that its best classifier takes, the same with IP options, one for
-/// another address, one that none takes.
+/// Frames for the tunnel of rule 9, whose eight classifiers have one range of ports and a destination each: one that the
+/// best of them takes, the same with IP options, one for another tunnel, one to a destination that none has.
 fn frames() -> [(&'static str, Vec<u8>); 4] {
     let best = 17;
     [
         ("forward", frame(9, best, 0x1234)),
         ("forward, with options", with_alert(frame(9, best, 0x1234))),
         ("other", frame(8, best, 0x1234)),
-        ("filtered", frame(9, 99, 0x1234)),
+        ("all miss on the destination", frame(9, 99, 0x1234)),
     ]
 }
 
@@ -278,8 +278,8 @@ fn judging_with(what: &str, table: &Table, frames: &[(&str, Vec<u8>)]) {
     }
 }
 
-/// Frames for a tunnel of eight entries of one address, each with ports of its own: half of them miss on their end and
-/// half on their start, or all but one do. (Eight entries of one range that miss on the address: "filtered" above.)
+/// Frames for a tunnel of eight classifiers of one destination, each with ports of its own. Where all miss on the port,
+/// half of them do on their end and half on their start.
 fn judging_ports() {
     let at = |port: &u16| frame(9, PORTS_DESTINATION, *port);
     let frames = [

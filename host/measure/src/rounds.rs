@@ -74,7 +74,7 @@ pub fn report(what: &str, per: usize, mut runners: Vec<Runner>) {
 
 /// Prints a line of named times, in nanoseconds, and the first one's ratio to each other.
 pub fn print_line(what: &str, times: &[(&str, f64)]) {
-    let mut line = format!("{what:<54}");
+    let mut line = format!("{what:<60}");
     for (name, time) in times {
         line += &format!("  {name} {:>9}", nanoseconds(*time));
     }
