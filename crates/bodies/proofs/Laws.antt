@@ -19,13 +19,14 @@ use Rattle.collector.specs.Answers.{Said, refused, again, waiting, complete}
 use Rattle.collection.specs.declared.Collection.{Collection}
 use Rattle.collection.specs.Record.{emptyCollection}
 use Rattle.body_tests.specs.Refusals.{numberOf}
-use Rattle.collector_demands.specs.Runs.{accepts, lookup, continues, runOf, missing, message, Reply, reply, storedReply, replyOf}
+use Rattle.collector_demands.specs.Runs.{accepts, lookup, continues, runFrom, missing, message, judged, Reply, reply, storedReply, replyFrom, replyOf}
 use Rattle.collector_demands.specs.Demand.{Lent, lentAfter, replyTo}
-use Rattle.collector_demands.proofs.Demands.{demand-2-nothing, blank-nothing}
+use Rattle.collector_demands.proofs.Demands.{demand-2-nothing}
+use Rattle.collector_demands.proofs.Refine.{blank-nothing}
 use Rattle.receiver.specs.Receive.{Told, Taken, taken, Had, receiveStep}
 use Rattle.bodies.specs.Body.{zeros, received, reportText, bodyText}
 
-pub received-from : {held : Collection} {t : Table} {slots join : List ℕ} (body : List ℕ) {h : Had} → held ≡ emptyCollection 0 0 → t ≡ emptyTable → slots ≡ zeros → join ≡ zeros
+pub received-from : {held : Collection} {t : Table} {slots join : List ℕ} (body : List ℕ) {h : Had} → held ≡ emptyCollection 0 0 0 → t ≡ emptyTable → slots ≡ zeros → join ≡ zeros
     → h ≡ receiveStep held t slots join body → h ≡ received body
 unfolding received
 received-from body e f g k h = rw (e, f, g, k) at h
@@ -36,33 +37,34 @@ bodyText-from body e f g = rw (e, f, g) refl
 
 -- what is lent at the start
 abbrev start : Lent
-start = record { held = emptyCollection 0 0; slots = zeros; join = zeros }
+start = record { held = emptyCollection 0 0 0; slots = zeros; join = zeros }
 
 long : 24000 ≤ length zeros
 unfolding zeros
 long = omega (arith, length-replicate {A = ℕ} 24000 0)
 
-first-reply : (body : List ℕ) → replyTo start [] body ≡ replyOf [] body
-first-reply body = demand-2-nothing start long long blank-nothing [] body .0
+first-reply : (body : List ℕ) → replyTo start [] body ≡ replyOf false [] body
+first-reply body = demand-2-nothing start long long (blank-nothing 0) [] body .0
 
 -- what is taken up of the reply to a first body
 abbrev pub takenFirst : List ℕ → Taken
-takenFirst body = taken (replyOf [] body .answer) emptyTable (replyOf [] body .lent)
+takenFirst body = taken (replyOf false [] body .answer) emptyTable (replyOf false [] body .lent)
 
 pub bodyText-reply : (body : List ℕ) → bodyText body ≡ reportText (takenFirst body .report) (getD body 0 0) (takenFirst body .table)
 unfolding bodyText received receiveStep lentAfter
 bodyText-reply body =
     ap (λ (r : Reply). reportText (taken (r .answer) emptyTable (r .lent) .report) (getD body 0 0) (taken (r .answer) emptyTable (r .lent) .table)) (first-reply body)
 
-stored-not-again : (run : List (List ℕ)) (n : ℕ) → storedReply run n .answer ≡ again → ⊥
+stored-not-again : (run : List (List ℕ)) (n : ℕ) → storedReply false run n .answer ≡ again → ⊥
+unfolding judged
 stored-not-again run n e = go (eqb (missing (lookup run) n) 0) e where
   go : (b : Bool) → cond b (reply (complete (length (message (lookup run) n))) (message (lookup run) n)) (reply (waiting (missing (lookup run) n)) []) .answer ≡ again → ⊥
   go true f = let z : _≡_ {A = ℕ} 0 1 = cc in omega arith
   go false f = let z : _≡_ {A = ℕ} 0 1 = cc in omega arith
 
-pub first-not-again : (body : List ℕ) → replyOf [] body .answer ≡ again → ⊥
-unfolding replyOf runOf continues
+pub first-not-again : (body : List ℕ) → replyOf false [] body .answer ≡ again → ⊥
+unfolding replyFrom runFrom continues
 first-not-again body e = go (accepts body) _ _ e where
-  go : (b : Bool) (run : List (List ℕ)) (n : ℕ) → cond b (storedReply run (numberOf body)) (reply (refused n) []) .answer ≡ again → ⊥
+  go : (b : Bool) (run : List (List ℕ)) (n : ℕ) → cond b (storedReply false run (numberOf body)) (reply (refused n) []) .answer ≡ again → ⊥
   go true run n f = stored-not-again run (numberOf body) f
   go false run n f = let z : _≡_ {A = ℕ} 0 1 = cc in omega arith

@@ -15,7 +15,7 @@ use lib.ListN.{getD, replicate}
 use Rattle.table.specs.declared.Table.{Table}
 use Rattle.table.specs.Table.{emptyTable}
 use Rattle.collection.specs.Record.{emptyCollection}
-use Rattle.receiver.specs.Receive.{Told, bodyRefused, again, waiting, accepted, messageRefused, Had, receiveStep}
+use Rattle.receiver.specs.Receive.{Told, bodyRefused, again, waiting, accepted, messageRefused, dropped, Had, receiveStep}
 use Rattle.notices.specs.Text.{refusalText, waitingText}
 use Rattle.listing.specs.Text.{tableText}
 
@@ -23,7 +23,7 @@ unfoldable pub zeros : List ℕ
 zeros = replicate 24000 0
 
 unfoldable pub received : List ℕ → Had
-received body = receiveStep (emptyCollection 0 0) emptyTable zeros zeros body
+received body = receiveStep (emptyCollection 0 0 0) emptyTable zeros zeros body
 
 unfoldable pub reportText : Told → ℕ → Table → List ℕ
 reportText (bodyRefused n) count t = refusalText n 0
@@ -31,6 +31,7 @@ reportText again count t = waitingText 0
 reportText (waiting k) count t = waitingText k
 reportText accepted count t = tableText count t
 reportText (messageRefused n offset) count t = refusalText n offset
+reportText (dropped cut) count t = refusalText 21 cut
 
 unfoldable pub bodyText : List ℕ → List ℕ
 bodyText body = reportText (received body .report) (getD body 0 0) (received body .table)

@@ -35,7 +35,7 @@ fn receive_alone(body: &[u8]) -> Received
 {
     let mut slots = zero_buffer();
     let mut join = zero_buffer();
-    let held = collection::empty_collection();
+    let held = collection::empty_collection(0);
     let table = table::empty_table();
     receiver::receive(held, table, &mut slots, &mut join, body)
 }
@@ -50,6 +50,7 @@ fn list_report(report: Report, count: u8, table: Table, out: &mut [u8]) -> Liste
         Report::Waiting(empty) => notices::list_waiting(empty, out),
         Report::Accepted => listing::list_table(count, table, out),
         Report::MessageRefused(number, offset) => notices::list_refusal(number, offset, out),
+        Report::Dropped(cut) => notices::list_refusal(21, cut, out),
     }
 }
 

@@ -16,7 +16,7 @@ use Rattle.relation.specs.Relation.{goesOn}
 use Rattle.collector.specs.Step.{noted, After, finished}
 
 abbrev pub begun : ℕ → Collection → ℕ → ℕ → Collection
-begun how r count number = cond (eqb how goesOn) r (emptyCollection count number)
+begun how r count number = cond (eqb how goesOn) r (emptyCollection (r .strict) count number)
 
 abbrev pub storedStep : Collection → List ℕ → List ℕ → ℕ → List ℕ → After
 storedStep r slots join k piece = finished (noted r k (length piece)) (pasted slots (k * 1500) piece) join (length piece)

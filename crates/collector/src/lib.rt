@@ -1,19 +1,20 @@
 // Collects the pieces of a message (document 01, "Collecting pieces").
 //
 // One public function, `collect`: it takes a record, the two lent buffers and a body, and answers Refused
-// (1 to 5), Repeat, Waiting or Complete.
+// (1 to 5), Repeat, Waiting, Complete, or Dropped (21).
 //
 // It takes any record and buffers of any length: bad input is an answer, never a duty of the caller,
-// and after a refusal record and buffers are as they were. The slot buffer changes only where a piece
+// and after a refusal 1 to 5 record and buffers are as they were; 21 empties the record but for its setting. The slot buffer changes only where a piece
 // is stored, the join buffer only where a message of several pieces is joined.
 ghost use mathlib.Core.Path.{_≡_};
 ghost use Prim.Native.Nat.{ℕ, _≤_, _<_};
-ghost use lib.ListN.{length, getD};
+ghost use lib.ListN.{length, getD, take};
 ghost use Rattle.held.specs.Held.{emptySlots};
 ghost use Rattle.collector.specs.Answers.{said};
 ghost use Rattle.collector.specs.Duties.{begun, storedStep};
-ghost use Rattle.collector.specs.Step.{finished, collectStep};
+ghost use Rattle.collector.specs.Step.{settled, finished, collectStep};
 use collection::Collection;
+use cuts::Cuts;
 
 // What a body is answered.
 pub enum Answer {
@@ -25,6 +26,9 @@ pub enum Answer {
     Waiting(u8),
     // Stored, and none is missing: the length of the message.
     Complete(usize),
+    // Stored, and none is missing, but a strict collection was cut inside an element, first at this byte of the
+    // message: refusal 21, and nothing is collected.
+    Dropped(usize),
 }
 
 // The answer, and the record after the call.
@@ -56,27 +60,61 @@ fn base(how: u8, held: Collection, count: u8, number: u8) -> Collection
     if how == relation::GOES_ON {
         return held;
     }
-    collection::begin(count, number)
+    collection::begin(held.strict, count, number)
 }
 
-// The answer to a piece of `len` bytes that is stored and noted; a message of several pieces is joined.
-fn finish(next: Collection, slots: &[u8], join: &mut [u8], len: usize) -> Answer
+// What a message of several pieces comes to, which are joined in the first `size` bytes of the join buffer.
+fn settle(next: Collection, join: &[u8], size: usize) -> Outcome
+    requires { ⌜ size ≤ length (now join) ⌝ }
+    ensures { λ r. ⌜ record { answer = said (r .answer); held = r .held } ≡ settled next (take size (now (join .entry))) ⌝ }
+{
+    if next.strict == 0 {
+        return Outcome {
+            answer: Answer::Complete(size),
+            held: next,
+        };
+    }
+    let lengths = next.lengths;
+    let n = next.number as usize;
+    match cuts::judge_cuts(&join[..size], lengths, n) {
+        Cuts::Good => Outcome {
+            answer: Answer::Complete(size),
+            held: next,
+        },
+        Cuts::Bad(cut) => {
+            let emptied = collection::empty_collection(next.strict);
+            Outcome {
+                answer: Answer::Dropped(cut),
+                held: emptied,
+            }
+        }
+    }
+}
+
+// The answer to a piece of `len` bytes that is stored and noted, and the record after it; a message of several pieces is joined.
+fn finish(next: Collection, slots: &[u8], join: &mut [u8], len: usize) -> Outcome
     requires { ⌜ (next .number ≤ 16) × (24000 ≤ length (now join)) ⌝ }
     requires { ⌜ ((k : ℕ) → k < 16 → getD (next .lengths) k 0 ≤ 1497) ⌝ }
-    ensures { λ r. ⌜ record { answer = said r; held = next; slots = now (slots .entry); join = now (join .exit) } ≡ finished next (now (slots .entry)) (now (join .entry)) len ⌝ }
+    ensures { λ r. ⌜ record { answer = said (r .answer); held = r .held; slots = now (slots .entry); join = now (join .exit) } ≡ finished next (now (slots .entry)) (now (join .entry)) len ⌝ }
 {
     let filled = next.filled;
     let n = next.number as usize;
     let empty = count_empty(filled, n);
     if empty != 0 {
-        return Answer::Waiting(empty);
+        return Outcome {
+            answer: Answer::Waiting(empty),
+            held: next,
+        };
     }
     if n == 1 {
-        return Answer::Complete(len);
+        return Outcome {
+            answer: Answer::Complete(len),
+            held: next,
+        };
     }
     let lengths = next.lengths;
     let size = joining::join_pieces(slots, join, lengths, n);
-    Answer::Complete(size)
+    settle(next, join, size)
 }
 
 // Notes the piece in `from` and stores it in slot `k`; the answer, and the record after it.
@@ -92,8 +130,7 @@ fn accept(from: Collection, slots: &mut [u8], join: &mut [u8], k: usize, piece: 
     next.lengths[k] = len as u16;
     let at = k * joining::SLOT_BYTES;
     wire::copy_at(slots, at, piece);
-    let answer = finish(next, slots, join, len);
-    Outcome { answer, held: next }
+    finish(next, slots, join, len)
 }
 
 // One body: its answer and the record after it; the piece is stored, and a message of several pieces joined.

@@ -15,7 +15,10 @@ use mathlib.Core.Logic.{_⊎_, inl, inr}
 use native.Mathlib.Omega.{arith}
 use lib.ListN.{length, getD, take, drop, replicate, take-append-drop}
 use Rattle.compare.specs.Compare.{sameBytes}
-use Rattle.collector.specs.Answers.{refused, again, waiting, complete, lentOf}
+use Rattle.collector.specs.Answers.{refused, again, waiting, complete, dropped, lentOf}
+use Rattle.elements.specs.Elements.{headAt}
+use Rattle.children.specs.Rows.{rowFrom, rowIn}
+use Rattle.cuts.specs.Cuts.{startsAt, judgedTo, mayIn, sumTo, cutsFrom, cutsIn}
 use Rattle.collection.specs.Record.{emptyCollection}
 use Rattle.held.specs.Held.{soundTo, emptySlots, wellMade, isOf}
 use Rattle.joining.specs.Pieces.{pieceAt}
@@ -23,10 +26,11 @@ use Rattle.body_tests.specs.Refusals.{bodyRefusal, refusalOf}
 use Rattle.relation.specs.Relation.{relationTo}
 use Rattle.collector.specs.Step.{accepted, collectStep}
 use Rattle.collection.specs.declared.Collection.{Collection}
-use Rattle.collector_demands.specs.Runs.{accepts, lookup, continues, runOf, missing, message, reply, replyOf}
+use Rattle.collector_demands.specs.Runs.{accepts, lookup, continues, missing, message, lengthsTo, judged, settledRun, runFrom, reply, replyFrom, replyOf}
+use Rattle.wire.proofs.Laws.{clash}
 use Rattle.collector_demands.specs.Demand.{Lent, lentAfter, replyTo, isComplete, completions, concat, Cutting, bodyOf, Arrived, none, other, piece, Came, Apart, Demand3}
-use Rattle.collector_demands.proofs.Refine.{refusalOf-long}
-use Rattle.collector_demands.proofs.Demands.{blank-nothing, demand-2-nothing, demand-3}
+use Rattle.collector_demands.proofs.Refine.{blank-nothing, refusalOf-long}
+use Rattle.collector_demands.proofs.Demands.{demand-2-nothing, demand-3}
 
 abbrev pub M : List ℕ
 M =
@@ -43,20 +47,31 @@ abbrev pub secondBody : List ℕ
 secondBody = 7 ∷ 2 ∷ 2 ∷ drop 10 M
 
 -- the starred example; a piece that comes again is a Repeat, also after completion
-pub cut-example : (replyOf [] secondBody ≡ reply (waiting 1) []) × (replyOf (secondBody ∷ []) firstBody ≡ reply (complete 52) M)
-    × (replyOf (firstBody ∷ secondBody ∷ []) secondBody ≡ reply again [])
-unfolding replyOf accepts lookup continues runOf missing message bodyRefusal sameBytes
+pub cut-example : (replyOf false [] secondBody ≡ reply (waiting 1) []) × (replyOf false (secondBody ∷ []) firstBody ≡ reply (complete 52) M)
+    × (replyOf false (firstBody ∷ secondBody ∷ []) secondBody ≡ reply again [])
+unfolding replyFrom accepts lookup continues runFrom settledRun judged missing message bodyRefusal sameBytes
 cut-example = (refl, refl, refl)
+
+-- the same cut under the strict setting: it is inside the first rule, 21 at 10; and the next body starts a run
+pub cut-strict : (replyOf true [] secondBody ≡ reply (waiting 1) []) × (replyOf true (secondBody ∷ []) firstBody ≡ reply (dropped 10) [])
+    × (replyOf true (firstBody ∷ secondBody ∷ []) secondBody ≡ reply (waiting 1) [])
+unfolding replyFrom accepts lookup continues runFrom settledRun judged missing message lengthsTo bodyRefusal sameBytes headAt rowFrom rowIn startsAt judgedTo mayIn sumTo cutsFrom cutsIn
+cut-strict = (refl, refl, refl)
+
+-- cut after the first rule it passes
+pub between-strict : replyOf true ((7 ∷ 2 ∷ 2 ∷ drop 22 M) ∷ []) (7 ∷ 2 ∷ 1 ∷ take 22 M) ≡ reply (complete 52) M
+unfolding replyFrom accepts lookup continues runFrom settledRun judged missing message lengthsTo bodyRefusal sameBytes headAt rowFrom rowIn startsAt judgedTo mayIn sumTo cutsFrom cutsIn
+between-strict = refl
 
 module _ (slots join : List ℕ) (room : 24000 ≤ length slots) (space : 24000 ≤ length join) where
   -- what the caller lends: these buffers and this record
   abbrev pub lending : Collection → Lent
   lending r = record { held = r; slots = slots; join = join }
 
-  pub cut-collected : (replyTo (lending (emptyCollection 0 0)) [] secondBody ≡ reply (waiting 1) []) × (replyTo (lending (emptyCollection 0 0)) (secondBody ∷ []) firstBody ≡ reply (complete 52) M)
+  pub cut-collected : (replyTo (lending (emptyCollection 0 0 0)) [] secondBody ≡ reply (waiting 1) []) × (replyTo (lending (emptyCollection 0 0 0)) (secondBody ∷ []) firstBody ≡ reply (complete 52) M)
   cut-collected = (
-    demand-2-nothing (lending (emptyCollection 0 0)) room space blank-nothing [] secondBody .0 ∙ cut-example .0,
-    demand-2-nothing (lending (emptyCollection 0 0)) room space blank-nothing (secondBody ∷ []) firstBody .0 ∙ cut-example .1,
+    demand-2-nothing (lending (emptyCollection 0 0 0)) room space (blank-nothing 0) [] secondBody .0 ∙ cut-example .0,
+    demand-2-nothing (lending (emptyCollection 0 0 0)) room space (blank-nothing 0) (secondBody ∷ []) firstBody .0 ∙ cut-example .1,
   )
 
 -- ---- demand 3: its hypotheses can be met
@@ -79,7 +94,7 @@ arrived-met = piece 0 (omega arith) (piece 1 (omega arith) (other [] (λ e. omeg
 
 -- a record that holds a collection under another count: number 1, one empty piece
 abbrev pub otherCount : Collection
-otherCount = record { count = 6; number = 1; filled = 1 ∷ replicate 15 0; lengths = replicate 16 0 }
+otherCount = record { count = 6; number = 1; filled = 1 ∷ replicate 15 0; lengths = replicate 16 0; strict = 0 }
 
 pub other-holds : wellMade otherCount ≡ true
 unfolding wellMade soundTo emptySlots
@@ -91,7 +106,7 @@ other-apart = inr (inl (λ e. omega arith))
 pub example-once : (slots join : List ℕ) (room : 24000 ≤ length slots) (space : 24000 ≤ length join) → completions (lending slots join room space otherCount) bodies ≡ 1
 unfolding Came arrived-met
 example-once slots join room space =
-    demand-3 (lending slots join room space otherCount) room space 7 M pieces cutting-met other-apart .once arrived-met all where
+    demand-3 (lending slots join room space otherCount) room space 7 M pieces cutting-met (λ e. absurd (clash e)) other-apart .once arrived-met all where
       all : (k : ℕ) → k < 2 → Came k arrived-met
       all zero l = inl refl
       all (suc zero) l = inr (inl refl)
@@ -100,7 +115,7 @@ example-once slots join room space =
 -- ---- without Apart it would be false: with the only piece held already, it is a Repeat, and completion is never reported
 
 abbrev heldAlready : Collection
-heldAlready = record { count = 7; number = 1; filled = 1 ∷ replicate 15 0; lengths = replicate 16 0 }
+heldAlready = record { count = 7; number = 1; filled = 1 ∷ replicate 15 0; lengths = replicate 16 0; strict = 0 }
 
 again-already : (slots join : List ℕ) → 24000 ≤ length slots → 24000 ≤ length join → collectStep heldAlready slots join (7 ∷ 1 ∷ 1 ∷ []) .answer ≡ again
 unfolding collectStep accepted relationTo isOf wellMade soundTo emptySlots pieceAt bodyRefusal sameBytes

@@ -15,9 +15,11 @@ use native.Mathlib.Omega.{arith}
 use borrow.Author.Tests.{eqb-true, eqb-false, eq-eqb, ne-eqb, le-ltb}
 use lib.ListN.{length, getD}
 use lib.Dec.{eqb}
+use Rattle.cuts.specs.Cuts.{allGood}
 use Rattle.compare.proofs.Laws.{sameBytes-refl}
 use Rattle.body_tests.specs.Refusals.{countOf, numberOf, slotOf, bodyRefusal}
-use Rattle.collector_demands.specs.Runs.{Slot, empty, full, isFull, accepts, lookup, takes, continues, runOf}
+use Rattle.collector_demands.specs.Runs.{Slot, empty, full, isFull, accepts, lookup, takes, continues, missing, judged, runBy, settledRun, stored, repeated, runFrom, runOf}
+use Rattle.collector_demands.proofs.Missing.{missing-zero, judged-same}
 use Rattle.collector_demands.specs.Demand.{bodyOf, Arrived, none, other, piece, Came}
 
 pub refuses : (b : List ℕ) → (bodyRefusal b ≡ 0 → ⊥) → accepts b ≡ false
@@ -100,6 +102,9 @@ module _ (c : ℕ) (ps : List (List ℕ)) where
     go true e g = inr (rw (eqb-true j k e) (at-same (cameAll t) k))
     go false e g = rw (at-other (cameAll t) k j (eqb-false j k e)) g
 
+  pub goes-on : {h : List (List ℕ)} (t : Arrived c ps h) (k : ℕ) → stored (cameAll t) (body k) ≡ body k ∷ cameAll t
+  goes-on t k = goes (cameAll t) k (headed t) (good t k)
+
   pub came : {h : List (List ℕ)} (k : ℕ) (t : Arrived c ps h) → Came k t → lookup (cameAll t) k ≡ full (p k)
   unfolding cameAll Came
   came k none a = absurd a
@@ -129,9 +134,28 @@ module _ (c : ℕ) (ps : List (List ℕ)) where
           le-ltb n (suc k) l,
         )
 
-    -- the run is what came
-    pub run-is : {h : List (List ℕ)} (t : Arrived c ps h) → runOf h ≡ cameAll t
-    unfolding runOf cameAll
-    run-is none = refl
-    run-is (other b e t) = rw (refuses b e) (run-is t)
-    run-is (piece k l t) = rw (accepts-body k l, run-is t) (goes (cameAll t) k (headed t) (good t k))
+    -- whichever setting: all pieces together pass
+    module _ (strict : Bool) (passes : judged strict (λ k. full (p k)) n ≡ allGood) where
+      -- slots that are empty or have their piece, and none empty, are judged as the pieces are
+      pub judged-good : (s : ℕ → Slot) → ((j : ℕ) → (s j ≡ empty) ⊎ (s j ≡ full (p j))) → missing s n ≡ 0 → judged strict s n ≡ allGood
+      judged-good s g z = judged-same strict s (λ k. full (p k)) n (λ j q. ⊎-elim (λ (e : s j ≡ empty). absurd (is-full j q e)) (λ (e : s j ≡ full (p j)). e) (g j)) ∙ passes where
+        is-full : (j : ℕ) → j < n → s j ≡ empty → ⊥
+        is-full j q e = let f : isFull empty ≡ true = rw e at (missing-zero s n z j q) in let y : _≡_ {A = ℕ} 0 1 = cc in omega arith
+
+      -- so no run of pieces is dropped
+      kept : (run : List (List ℕ)) → ((j : ℕ) → (lookup run j ≡ empty) ⊎ (lookup run j ≡ full (p j))) → settledRun strict run n ≡ run
+      unfolding settledRun
+      kept run g = go (eqb (missing (lookup run) n) 0) refl where
+        go : (t : Bool) → eqb (missing (lookup run) n) 0 ≡ t → cond t (runBy (judged strict (lookup run) n) run) run ≡ run
+        go true e = rw (judged-good (lookup run) g (eqb-true _ _ e)) refl
+        go false e = refl
+
+      -- the run is what came
+      pub run-is : {h : List (List ℕ)} (t : Arrived c ps h) → runOf strict h ≡ cameAll t
+      unfolding runFrom cameAll bodyOf
+      run-is none = refl
+      run-is (other b e t) = rw (refuses b e) (run-is t)
+      run-is (piece k l t) = rw (accepts-body k l, run-is t) (go (repeated (cameAll t) (body k))) where
+        go : (u : Bool) → cond u (body k ∷ cameAll t) (settledRun strict (stored (cameAll t) (body k)) (numberOf (body k))) ≡ body k ∷ cameAll t
+        go true = refl
+        go false = rw (goes-on t k) (kept (body k ∷ cameAll t) (good (piece k l t)))

@@ -14,16 +14,19 @@ use native.Mathlib.Omega.{arith}
 use borrow.Author.Tests.{eqb-true, eq-eqb, ne-eqb}
 use lib.ListN.{length, getD}
 use lib.Dec.{eqb}
-use Rattle.collector.specs.Answers.{Said, refused, again, waiting, complete, said, lentOf}
+use Rattle.cuts.specs.Cuts.{Ruling, allGood, badAt}
+use Rattle.collector.specs.Answers.{Said, refused, again, waiting, complete, dropped, said, lentOf}
 use Rattle.held.specs.Held.{wellMade}
 use Rattle.body_tests.specs.Refusals.{numberOf, slotOf, pieceOf, bodyRefusal}
 use Rattle.collector.specs.Step.{After, collectStep}
 use Rattle.collection.specs.declared.Collection.{Collection}
 use Rattle.collector.specs.declared.Outcome.{Outcome}
 use Rattle.collector.specs.declared.Answer.{Answer}
-use Rattle.collector.specs.declared.Answer.the-variants.{Refused, Repeat, Waiting, Complete}
+use Rattle.collector.specs.declared.Answer.the-variants.{Refused, Repeat, Waiting, Complete, Dropped}
 use Rattle.body_tests.proofs.Laws.{fits-of}
-use Rattle.collector_demands.specs.Runs.{isFull, accepts, lookup, continues, runOf, missing, message, Reply, reply, storedReply, replyOf}
+use Rattle.collector_demands.specs.Runs.{isFull, accepts, lookup, continues, stored, repeated, runFrom, runOf, missing, message, judged, Reply, reply, storedReply, replyFrom, replyOf}
+use Rattle.collector_demands.specs.Runs as runs
+use Rattle.collection.specs.Record.{isStrict}
 use Rattle.collector_demands.specs.Demand.{Lent, lentAfter, told, isComplete}
 use Rattle.collector_demands.proofs.Holds.{lookup-own}
 use Rattle.collector_demands.proofs.Missing.{missing-less, missing-all}
@@ -37,6 +40,7 @@ answered (refused n) = Refused n
 answered again = Repeat
 answered (waiting k) = Waiting k
 answered (complete n) = Complete n
+answered (dropped off) = Dropped off
 
 answered-said : (a : Answer) → answered (said a) ≡ a
 unfolding answered
@@ -44,6 +48,7 @@ answered-said (Refused n) = refl
 answered-said Repeat = refl
 answered-said (Waiting k) = refl
 answered-said (Complete n) = refl
+answered-said (Dropped off) = refl
 
 pub said-only : (a b : Answer) → said a ≡ said b → a ≡ b
 said-only a b e = sym (answered-said a) ∙ ap answered e ∙ answered-said b
@@ -87,7 +92,7 @@ module _ (f : Collection → List ℕ → List ℕ → List ℕ → After) (meet
       ap (λ (l : Lent). left (f (l .held) (l .slots) (l .join) b)) (lentBy-is s h) ∙ ap left (meets (lentAfter s h .held) (lentAfter s h .slots) (lentAfter s h .join) b)
 
   module _ (s : Lent) (room : 24000 ≤ length (s .slots)) (space : 24000 ≤ length (s .join)) (nothing : wellMade (s .held) ≡ false) where
-    replyBy-is : (h : List (List ℕ)) (b : List ℕ) → replyBy s h b ≡ replyOf h b
+    replyBy-is : (h : List (List ℕ)) (b : List ℕ) → replyBy s h b ≡ replyOf (isStrict (s .held)) h b
     replyBy-is h b =
         ap (λ (l : Lent). told (f (l .held) (l .slots) (l .join) b) b) (lentBy-is s h)
         ∙ ap (λ (a : After). told a b) (meets (lentAfter s h .held) (lentAfter s h .slots) (lentAfter s h .join) b)
@@ -101,8 +106,8 @@ module _ (f : Collection → List ℕ → List ℕ → List ℕ → After) (meet
         missing-less (lookup []) (lookup (b ∷ [])) (slotOf b) refl (ap isFull (lookup-own b [])) (λ j ne. rw (ne-eqb (slotOf b) j (λ e. ne (sym e))) refl) (numberOf b) (omega arith)
         ∙ missing-all (numberOf b)
 
-    first-reply : (b : List ℕ) → accepts b ≡ true → 2 ≤ numberOf b → replyOf [] b ≡ reply (waiting (numberOf b - 1)) []
-    unfolding replyOf runOf continues
+    first-reply : (b : List ℕ) → accepts b ≡ true → 2 ≤ numberOf b → replyOf (isStrict (s .held)) [] b ≡ reply (waiting (numberOf b - 1)) []
+    unfolding replyFrom runFrom continues
     first-reply b a two =
         let m = first-missing b a in
         let e : missing (lookup (b ∷ [])) (numberOf b) ≡ numberOf b - 1 = omega arith in
@@ -111,16 +116,19 @@ module _ (f : Collection → List ℕ → List ℕ → List ℕ → After) (meet
     pub no-first-piece-completes : (b : List ℕ) → accepts b ≡ true → 2 ≤ numberOf b → replyBy s [] b ≡ reply (waiting (numberOf b - 1)) []
     no-first-piece-completes b a two = replyBy-is [] b ∙ first-reply b a two
 
-    waiting-is : (h : List (List ℕ)) (b : List ℕ) (k : ℕ) → replyOf h b .answer ≡ waiting k → k ≡ missing (lookup (runOf (b ∷ h))) (numberOf b)
-    unfolding replyOf
-    waiting-is h b k e = go (accepts b) (continues (runOf h) b && isFull (lookup (runOf h) (slotOf b))) (eqb (missing (lookup (runOf (b ∷ h))) (numberOf b)) 0) e where
-      go : (t u v : Bool) → cond t (cond u (reply again []) (cond v
-          (reply (complete (length (message (lookup (runOf (b ∷ h))) (numberOf b)))) (message (lookup (runOf (b ∷ h))) (numberOf b)))
-          (reply (waiting (missing (lookup (runOf (b ∷ h))) (numberOf b))) []))) (reply (refused (bodyRefusal b)) []) .answer ≡ waiting k → k ≡ missing (lookup (runOf (b ∷ h))) (numberOf b)
-      go true true v x = absurd (let z : _≡_ {A = ℕ} 0 1 = cc in omega arith)
-      go true false true x = absurd (let z : _≡_ {A = ℕ} 0 1 = cc in omega arith)
-      go true false false x = cc
-      go false u v x = absurd (let z : _≡_ {A = ℕ} 0 1 = cc in omega arith)
+    waiting-is : (h : List (List ℕ)) (b : List ℕ) (k : ℕ) → replyOf (isStrict (s .held)) h b .answer ≡ waiting k → k ≡ missing (lookup (stored (runOf (isStrict (s .held)) h) b)) (numberOf b)
+    unfolding replyFrom
+    waiting-is h b k e = go (accepts b) (repeated (runOf (isStrict (s .held)) h) b) (eqb (missing (lookup now) (numberOf b)) 0) (judged (isStrict (s .held)) (lookup now) (numberOf b)) e where
+      now : List (List ℕ)
+      now = stored (runOf (isStrict (s .held)) h) b
 
-    pub no-invented-slots : (h : List (List ℕ)) (b : List ℕ) (k : ℕ) → replyBy s h b .answer ≡ waiting k → k ≡ missing (lookup (runOf (b ∷ h))) (numberOf b)
+      go : (t u v : Bool) (w : Ruling) → cond t (cond u (reply again []) (cond v (runs.replyBy w (message (lookup now) (numberOf b)))
+          (reply (waiting (missing (lookup now) (numberOf b))) []))) (reply (refused (bodyRefusal b)) []) .answer ≡ waiting k → k ≡ missing (lookup now) (numberOf b)
+      go true true v w x = absurd (let z : _≡_ {A = ℕ} 0 1 = cc in omega arith)
+      go true false true allGood x = absurd (let z : _≡_ {A = ℕ} 0 1 = cc in omega arith)
+      go true false true (badAt cut) x = absurd (let z : _≡_ {A = ℕ} 0 1 = cc in omega arith)
+      go true false false w x = cc
+      go false u v w x = absurd (let z : _≡_ {A = ℕ} 0 1 = cc in omega arith)
+
+    pub no-invented-slots : (h : List (List ℕ)) (b : List ℕ) (k : ℕ) → replyBy s h b .answer ≡ waiting k → k ≡ missing (lookup (stored (runOf (isStrict (s .held)) h) b)) (numberOf b)
     no-invented-slots h b k e = waiting-is h b k (sym (ap (λ (r : Reply). r .answer) (replyBy-is h b)) ∙ e)

@@ -5,7 +5,7 @@
 --   put-same               a repeat: they are that already
 --   well                   such a record with a full slot is well made
 --   none-held              an empty record has the slots of no run
---   missing-is, message-is       what the record counts and joins is what the run misses and has
+--   missing-is, message-is, lengths-is       what the record counts, joins and notes is what the run misses and has
 -- Trusts: nothing.
 use Prim.Native.Nat.{ℕ, zero, suc, _+_, _*_, _-_, _≤_, _<_}
 use mathlib.Core.Path.{_≡_, refl, sym, ap, _∙_}
@@ -26,7 +26,8 @@ use Rattle.collector.specs.Step.{noted}
 use Rattle.collection.specs.declared.Collection.{Collection}
 use Rattle.held.proofs.Laws.{emptySlots-lt, soundTo-all}
 use Rattle.joining.proofs.Laws.{pieceAt-same, pieceAt-other}
-use Rattle.collector_demands.specs.Runs.{Slot, empty, full, isFull, bytesOf, lookup, missing, message, SlotHas}
+use Rattle.collector_demands.specs.Runs.{Slot, empty, full, isFull, bytesOf, lookup, missing, message, lengthsTo, SlotHas}
+use Rattle.collector_demands.proofs.Missing.{lengthsTo-at}
 
 -- a slot with what the run has; filled, it is one of the n
 pub record Has (s : Slot) (n : ℕ) (r : Collection) (slots : List ℕ) (k : ℕ) : Type 0 where
@@ -139,9 +140,9 @@ well run r slots s few k q f =
     simp (le-leb (r .number) 16 few, soundTo-all (r .filled) (r .lengths) (r .number) 16 (λ j x. slot-sound (lookup run j) (r .number) j r slots (s .each j x)))
     (lt-ltb (emptySlots (r .filled) 16) 16 (emptySlots-lt (r .filled) k 16 one q))
 
-pub none-held : (c n : ℕ) (slots : List ℕ) → 24000 ≤ length slots → Slots [] (emptyCollection c n) slots
+pub none-held : (st c n : ℕ) (slots : List ℕ) → 24000 ≤ length slots → Slots [] (emptyCollection st c n) slots
 unfolding lookup pieceAt
-none-held c n slots room = record {
+none-held st c n slots room = record {
   room = room;
   flags = length-replicate {A = ℕ} 16 0;
   lens = length-replicate {A = ℕ} 16 0;
@@ -164,3 +165,6 @@ module _ (run : List (List ℕ)) (r : Collection) (slots : List ℕ) (s : Slots 
   unfolding joined message
   message-is zero h = refl
   message-is (suc n) h = rw (message-is n (omega arith), s .each n h .has .bytes) refl
+
+  pub lengths-is : (n : ℕ) → n ≤ 16 → (j : ℕ) → j < n → getD (r .lengths) j 0 ≡ getD (lengthsTo (lookup run) n) j 0
+  lengths-is n h j q = s .each j (omega arith) .has .len ∙ sym (lengthsTo-at (lookup run) n j q)

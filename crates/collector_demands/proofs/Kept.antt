@@ -17,7 +17,7 @@ use Rattle.collector.specs.Answers.{refused, again, waiting, complete}
 use Rattle.held.specs.Held.{emptySlots}
 use Rattle.joining.specs.Pieces.{joined}
 use Rattle.body_tests.specs.Refusals.{slotOf, pieceOf, refusalOf}
-use Rattle.collector.specs.Step.{relationOf, baseOf, noted, after, finished, accepted, collectStep}
+use Rattle.collector.specs.Step.{relationOf, baseOf, noted, after, settled, finished, accepted, collectStep}
 use Rattle.collection.specs.declared.Collection.{Collection}
 use Rattle.joining.proofs.Laws.{length-joined}
 use Rattle.body_tests.proofs.Laws.{fits-of, refusalOf-room}
@@ -31,7 +31,7 @@ finished-join : (next : Collection) (slots join : List ℕ) (len : ℕ) → leng
 unfolding finished
 finished-join next slots join len h = go (eqb (emptySlots (next .filled) (next .number)) 0) (eqb (next .number) 1) where
   go : (t u : Bool) → length (cond t (cond u (after (complete len) next slots join)
-      (after (complete (length (joined slots (next .lengths) (next .number)))) next slots
+      (after (settled next (joined slots (next .lengths) (next .number)) .answer) (settled next (joined slots (next .lengths) (next .number)) .held) slots
       (joined slots (next .lengths) (next .number) ++ drop (length (joined slots (next .lengths) (next .number))) join)))
       (after (waiting (emptySlots (next .filled) (next .number))) next slots join) .join) ≡ length join
   go true true = refl

@@ -96,4 +96,4 @@ complete-number r slots join b n = go (eqb (refusalOf (length slots) (length joi
   go : (t u : Bool) → way t u .answer ≡ complete n → way t u .held .number ≡ numberOf b
   go false u e = absurd (let z : _≡_ {A = ℕ} 0 1 = cc in omega arith)
   go true true e = absurd (let z : _≡_ {A = ℕ} 0 1 = cc in omega arith)
-  go true false e = ap (λ (c : Collection). c .number) (finished-held next stored join (length b - 3)) ∙ baseOf-number r slots b
+  go true false e = ap (λ (c : Collection). c .number) (finished-held next stored join (length b - 3) e) ∙ baseOf-number r slots b

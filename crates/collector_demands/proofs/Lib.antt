@@ -10,6 +10,7 @@
 -- Last: Complete is reported at the arrival of the last piece missing, and there only.
 -- Bench: the starred example; that demand 3's hypotheses can be met, and that Apart is needed.
 -- Controls: one answer only; wrong collectors refuted.
+-- Between: pieces of whole elements pass the strict test.
 pub mod Missing
 pub mod Holds
 pub mod Refine
@@ -19,6 +20,7 @@ pub mod Kept
 pub mod Came
 pub mod Once
 pub mod Demands
+pub mod Between
 pub mod Last
 pub mod Bench
 pub mod Controls

@@ -59,24 +59,6 @@ module _ (r : Collection) (slots : List ℕ) (made : wellMade r ≡ true) (room 
     go false f i (inl e) = rw (e, f) (lookup-out m m (omega arith))
     go false f i (inr l) = i l
 
-  -- ---- they are accepted, and one run
-
-  accepts-in : (k : ℕ) → k < 16 → isFilled (flag k) ≡ true → accepts (bodyIn r slots k) ≡ true
-  unfolding accepts bodyRefusal
-  accepts-in k q f =
-      let w = wellMade-within r made k q f in
-      let n = wellMade-few r made in
-      let l = wellMade-short r made k q in
-      let p = length-pieceAt-le slots (r .lengths) k in
-      simp (
-        le-ltb (suc (suc (suc (length (pieceAt slots (r .lengths) k))))) 3 (omega arith),
-        le-ltb 1500 (suc (suc (suc (length (pieceAt slots (r .lengths) k))))) (omega arith),
-        ne-eqb (r .number) 0 (λ e. omega arith),
-        le-ltb 16 (r .number) n,
-        ne-eqb (suc k) 0 (λ e. omega arith),
-        le-ltb (r .number) (suc k) w,
-      )
-
   -- a run of these bodies has the record's count and number
   Headed : List (List ℕ) → Type 0
   Headed [] = Unit {0}
@@ -89,22 +71,6 @@ module _ (r : Collection) (slots : List ℕ) (made : wellMade r ≡ true) (room 
     go : (t : Bool) → Headed (bodiesTo r slots m) → Headed (cond t (bodyIn r slots m ∷ bodiesTo r slots m) (bodiesTo r slots m))
     go true h = (refl, refl)
     go false h = h
-
-  goes : (k : ℕ) (run : List (List ℕ)) → Headed run → lookup run k ≡ empty → cond (continues run (bodyIn r slots k)) (bodyIn r slots k ∷ run) (bodyIn r slots k ∷ []) ≡ bodyIn r slots k ∷ run
-  unfolding continues Headed
-  goes k [] h e = refl
-  goes k (x ∷ xs) h e =
-      let s : suc k - 1 ≡ k = omega arith in
-      rw (eq-eqb (countOf x) (r .count) (h .0), eq-eqb (numberOf x) (r .number) (h .1), s, e) refl
-
-  bodiesTo-run : (m : ℕ) → m ≤ 16 → runOf (bodiesTo r slots m) ≡ bodiesTo r slots m
-  unfolding bodiesTo runOf
-  bodiesTo-run zero h = refl
-  bodiesTo-run (suc m) h = go (isFilled (flag m)) refl (bodiesTo-run m (omega arith)) where
-    go : (t : Bool) → isFilled (flag m) ≡ t → runOf (bodiesTo r slots m) ≡ bodiesTo r slots m
-        → runOf (cond t (bodyIn r slots m ∷ bodiesTo r slots m) (bodiesTo r slots m)) ≡ cond t (bodyIn r slots m ∷ bodiesTo r slots m) (bodiesTo r slots m)
-    go true f i = rw (accepts-in m h f, i) (goes m (bodiesTo r slots m) (headed m) (lookup-out m m (omega arith)))
-    go false f i = i
 
   -- where there is none, every slot is empty
   none-filled : (m : ℕ) → m ≤ 16 → bodiesTo r slots m ≡ [] → emptySlots (r .filled) m ≡ m
@@ -122,24 +88,23 @@ module _ (r : Collection) (slots : List ℕ) (made : wellMade r ≡ true) (room 
       let s = both (soundTo (r .filled) (r .lengths) (r .number) 16) _ (both (leb (r .number) 16) _ made .1) .1 in
       omega (arith, none-filled 16 (omega arith) e, ltb-true (emptySlots (r .filled) 16) 16 s)
 
-  rep-made : Sized r → Rep (bodiesTo r slots 16) r slots
+  rep-made : Sized r → Rep (r .strict) (bodiesTo r slots 16) r slots
   unfolding Headed
   rep-made z = go (bodiesTo r slots 16) refl where
-    go : (l : List (List ℕ)) → bodiesTo r slots 16 ≡ l → Rep l r slots
+    go : (l : List (List ℕ)) → bodiesTo r slots 16 ≡ l → Rep (r .strict) l r slots
     go [] e = absurd (some-filled e)
     go (x ∷ xs) e =
         let h : Headed (x ∷ xs) = rw e at (headed 16) in
         busy x xs r slots
         (record { room = room; flags = z .flags; lens = z .lens; each = λ k q. rw (← e, lookup-in 16 k q) (wellMade-has r made slots room k q) })
-        (sym (h .0)) (sym (h .1)) made
+        (sym (h .0)) (sym (h .1)) made refl
 
-pub rep-idle : (r : Collection) (slots : List ℕ) → 24000 ≤ length slots → wellMade r ≡ false → Rep (runOf []) r slots
-unfolding runOf
-rep-idle r slots room w = idle r slots room w
+pub rep-idle : (r : Collection) (slots : List ℕ) → 24000 ≤ length slots → wellMade r ≡ false → Rep (r .strict) [] r slots
+rep-idle r slots room w = idle r slots room w refl
 
-pub rep-any : (r : Collection) (slots : List ℕ) → Sized r → 24000 ≤ length slots → Rep (runOf (standsFor r slots)) r slots
+pub rep-any : (r : Collection) (slots : List ℕ) → Sized r → 24000 ≤ length slots → Rep (r .strict) (standsFor r slots) r slots
 unfolding standsFor
 rep-any r slots z room = go (wellMade r) refl where
-  go : (t : Bool) → wellMade r ≡ t → Rep (runOf (cond t (bodiesTo r slots 16) [])) r slots
-  go true w = rw (bodiesTo-run r slots w room 16 (omega arith)) (rep-made r slots w room z)
+  go : (t : Bool) → wellMade r ≡ t → Rep (r .strict) (cond t (bodiesTo r slots 16) []) r slots
+  go true w = rep-made r slots w room z
   go false w = rep-idle r slots room w

@@ -3,16 +3,21 @@
 --   missing-same       families that agree miss as many          missing-less     one more full slot: one fewer missing
 --   missing-some       an empty slot is missing                  missing-none     none where all are full
 --   missing-all        no run misses all
+--   missing-zero       none missing: all are full
 --   wholeTo            the first n pieces together               message-whole    what slots with these pieces have together
+--   lengthsTo-at       the length of a piece                     judged-same      families that agree are judged alike
 -- Trusts: nothing.
 use Prim.Native.Nat.{ℕ, zero, suc, _+_, _<_, _≤_}
-use mathlib.Core.Path.{_≡_, refl}
-use mathlib.Core.Bool.{true}
-use mathlib.Core.List.{List, [], _++_}
+use mathlib.Core.Path.{_≡_, refl, sym, _∙_}
+use mathlib.Core.Bool.{Bool, true, false, cond}
+use mathlib.Core.List.{List, [], _∷_, _++_}
+use lib.ListN.{length, getD, length-append, List·getD-append}
+use lib.Seq.{getD-append-seam}
 use mathlib.Core.Logic.{⊎-elim}
 use native.Mathlib.Omega.{arith}
 use native.Mathlib.Nat.{eq-or-lt-of-le, le-of-suc-le-suc}
-use Rattle.collector_demands.specs.Runs.{Slot, empty, full, isFull, bytesOf, lookup, missing, message}
+use Rattle.collector_demands.specs.Runs.{Slot, empty, full, isFull, bytesOf, lookup, missing, message, lengthsTo, judged}
+use Rattle.cuts.specs.Cuts.{cutsIn}
 
 -- two families of slots that agree below n miss as many
 pub missing-same : (f g : ℕ → Slot) (n : ℕ) → ((j : ℕ) → j < n → f j ≡ g j) → missing f n ≡ missing g n
@@ -57,3 +62,39 @@ pub message-whole : (p : ℕ → List ℕ) (s : ℕ → Slot) (n : ℕ) → ((k 
 unfolding message wholeTo
 message-whole p s zero h = refl
 message-whole p s (suc n) h = rw (h n (omega arith), message-whole p s n (λ k q. h k (omega arith))) refl
+
+-- none missing: all are full
+pub missing-zero : (s : ℕ → Slot) (n : ℕ) → missing s n ≡ 0 → (k : ℕ) → k < n → isFull (s k) ≡ true
+missing-zero s n z k q = go (s k) refl where
+  go : (t : Slot) → s k ≡ t → isFull t ≡ true
+  go empty e = absurd (omega (arith, missing-some s k e n q))
+  go (full p) e = refl
+
+-- ---- the lengths of the pieces
+
+length-lengthsTo : (s : ℕ → Slot) (n : ℕ) → length (lengthsTo s n) ≡ n
+unfolding lengthsTo
+length-lengthsTo s zero = refl
+length-lengthsTo s (suc n) = simp length-append (omega (arith, length-lengthsTo s n))
+
+pub lengthsTo-at : (s : ℕ → Slot) (n k : ℕ) → k < n → getD (lengthsTo s n) k 0 ≡ length (bytesOf (s k))
+unfolding lengthsTo
+lengthsTo-at s zero k q = absurd (omega arith)
+lengthsTo-at s (suc n) k q = ⊎-elim
+    (λ (e : k ≡ n). rw e (rw (length-lengthsTo s n) at (getD-append-seam (lengthsTo s n) (length (bytesOf (s n))) [] 0)))
+    (λ (l : k < n). List·getD-append (lengthsTo s n) _ 0 k (omega (arith, length-lengthsTo s n)) ∙ lengthsTo-at s n k l)
+    (eq-or-lt-of-le (le-of-suc-le-suc q))
+
+message-same : (f g : ℕ → Slot) (n : ℕ) → ((j : ℕ) → j < n → f j ≡ g j) → message f n ≡ message g n
+unfolding message
+message-same f g zero h = refl
+message-same f g (suc n) h = rw (h n (omega arith), message-same f g n (λ j q. h j (omega arith))) refl
+
+lengthsTo-same : (f g : ℕ → Slot) (n : ℕ) → ((j : ℕ) → j < n → f j ≡ g j) → lengthsTo f n ≡ lengthsTo g n
+unfolding lengthsTo
+lengthsTo-same f g zero h = refl
+lengthsTo-same f g (suc n) h = rw (h n (omega arith), lengthsTo-same f g n (λ j q. h j (omega arith))) refl
+
+pub judged-same : (strict : Bool) (f g : ℕ → Slot) (n : ℕ) → ((j : ℕ) → j < n → f j ≡ g j) → judged strict f n ≡ judged strict g n
+unfolding judged
+judged-same strict f g n h = rw (message-same f g n h, lengthsTo-same f g n h) refl

@@ -1,13 +1,13 @@
 -- Demand 2: one step of the collector answers and holds what the runs say (specs/Runs.antt).
 --
 --   Rep run r slots      the record and the slot buffer have the run, in the form that the proofs use
---   step                 from a record that has the run of h, a body gives `replyOf h` and a record that has the run of b ∷ h
+--   step                 from a record that has a run, a body gives the run's answer and a record that has the next run
 --   rep-held             such a record holds the run in the words of specs/Runs.antt
---   finished-held        what is finished holds the record that it was given
+--   finished-held        what is finished and complete holds the record that it was given
 -- Trusts: nothing.
 use Prim.Native.Nat.{ℕ, _+_, _*_, _-_, _≤_}
 use mathlib.Core.Path.{_≡_, refl, sym, ap, _∙_}
-use mathlib.Core.Bool.{Bool, true, false, cond, _&&_}
+use mathlib.Core.Bool.{Bool, true, false, cond, not, _&&_}
 use mathlib.Core.List.{List, [], _∷_, _++_}
 use native.Mathlib.Omega.{arith}
 use borrow.Author.Tests.{eqb-true, le-ltb}
@@ -17,35 +17,48 @@ use lib.Dec.{eqb}
 use Rattle.wire.specs.Bytes.{pasted}
 use Rattle.compare.specs.Compare.{sameBytes}
 use Rattle.compare.proofs.Laws.{sameBytes-true}
-use Rattle.collector.specs.Answers.{refused, again, waiting, complete, lentOf}
-use Rattle.collection.specs.Record.{emptyCollection}
-use Rattle.held.specs.Held.{isFilled, emptySlots, wellMade, isOf}
+use Rattle.collector.specs.Answers.{refused, again, waiting, complete, dropped, lentOf}
+use Rattle.collection.specs.Record.{emptyCollection, isStrict}
+use Rattle.held.specs.Held.{isFilled, emptySlots, soundTo, wellMade, isOf}
 use Rattle.joining.specs.Pieces.{joined}
 use Rattle.body_tests.specs.Refusals.{countOf, numberOf, slotOf, pieceOf, bodyRefusal, refusalOf, Fits}
 use Rattle.relation.specs.Relation.{goesOn, repeats, anew, relationTo}
-use Rattle.collector.specs.Step.{relationOf, baseOf, noted, After, after, finished, accepted, collectStep}
+use Rattle.collector.specs.Step.{relationOf, baseOf, noted, After, after, Settled, settledBy, settled, finished, accepted, collectStep}
 use Rattle.collection.specs.declared.Collection.{Collection}
 use Rattle.body_tests.proofs.Laws.{fits-of}
-use Rattle.collector_demands.specs.Runs.{Slot, empty, full, isFull, bytesOf, accepts, lookup, takes, continues, runOf, missing, message}
-use Rattle.collector_demands.specs.Runs.{Reply, reply, storedReply, replyOf, HeldBy, nothing, these}
+use Rattle.collector_demands.specs.Runs.{Slot, empty, full, isFull, bytesOf, accepts, lookup, takes, continues, missing, message, lengthsTo, judged, runBy, settledRun, nextRun}
+use Rattle.collector_demands.specs.Runs.{Reply, reply, replyBy, storedReply, answerTo, HeldBy, nothing, these}
+use Rattle.cuts.specs.Cuts.{Ruling, allGood, badAt, cutsIn}
+use Rattle.cuts.proofs.Says.{cutsIn-same, cutsIn-one}
 use Rattle.collector_demands.specs.Demand.{told}
-use Rattle.collector_demands.proofs.Holds.{Has, Slots, put, put-same, lookup-own, well, none-held, missing-is, message-is}
+use Rattle.collector_demands.proofs.Holds.{Has, Slots, put, put-same, lookup-own, well, none-held, missing-is, message-is, lengths-is}
 
-pub data Rep : List (List ℕ) → Collection → List ℕ → Type 0 where
-  idle : (r : Collection) (slots : List ℕ) → 24000 ≤ length slots → wellMade r ≡ false → Rep [] r slots
-  busy : (x : List ℕ) (xs : List (List ℕ)) (r : Collection) (slots : List ℕ) → Slots (x ∷ xs) r slots → r .count ≡ countOf x → r .number ≡ numberOf x → wellMade r ≡ true → Rep (x ∷ xs) r slots
+-- with this setting
+pub data Rep (st : ℕ) : List (List ℕ) → Collection → List ℕ → Type 0 where
+  idle : (r : Collection) (slots : List ℕ) → 24000 ≤ length slots → wellMade r ≡ false → r .strict ≡ st → Rep st [] r slots
+  busy : (x : List ℕ) (xs : List (List ℕ)) (r : Collection) (slots : List ℕ) → Slots (x ∷ xs) r slots → r .count ≡ countOf x → r .number ≡ numberOf x → wellMade r ≡ true
+      → r .strict ≡ st → Rep st (x ∷ xs) r slots
 
-pub rep-room : (run : List (List ℕ)) (r : Collection) (slots : List ℕ) → Rep run r slots → 24000 ≤ length slots
-rep-room run rr ss (idle r slots room w) = room
-rep-room run rr ss (busy x xs r slots s c n w) = s .room
+pub rep-room : (st : ℕ) (run : List (List ℕ)) (r : Collection) (slots : List ℕ) → Rep st run r slots → 24000 ≤ length slots
+rep-room st run rr ss (idle r slots room w z) = room
+rep-room st run rr ss (busy x xs r slots s c n w z) = s .room
 
-pub rep-held : (run : List (List ℕ)) (r : Collection) (slots : List ℕ) → Rep run r slots → HeldBy run r slots
-rep-held run rr ss (idle r slots room w) = nothing r slots w
-rep-held run rr ss (busy x xs r slots s c n w) = these x xs r slots w c n (λ k q. s .each k q .has)
+pub rep-held : (st : ℕ) (run : List (List ℕ)) (r : Collection) (slots : List ℕ) → Rep st run r slots → HeldBy run r slots
+rep-held st run rr ss (idle r slots room w z) = nothing r slots w
+rep-held st run rr ss (busy x xs r slots s c n w z) = these x xs r slots w c n (λ k q. s .each k q .has)
 
-pub record Tracks (run : List (List ℕ)) (a : Reply) (R : After) (b : List ℕ) : Type 0 where
-  pub rep : Rep run (R .held) (R .slots)
+pub record Tracks (st : ℕ) (run : List (List ℕ)) (a : Reply) (R : After) (b : List ℕ) : Type 0 where
+  pub rep : Rep st run (R .held) (R .slots)
   pub reply-is : told R b ≡ a
+
+-- whether a setting is strict
+abbrev strictly : ℕ → Bool
+strictly st = not (eqb st 0)
+
+-- a record with nothing collected
+pub blank-nothing : (st : ℕ) → wellMade (emptyCollection st 0 0) ≡ false
+unfolding wellMade soundTo emptySlots
+blank-nothing st = refl
 
 -- ---- what `finished` leaves and tells
 
@@ -56,83 +69,101 @@ lacking next = emptySlots (next .filled) (next .number)
 abbrev whole : Collection → List ℕ → List ℕ
 whole next slots = joined slots (next .lengths) (next .number)
 
--- by its two tests: none empty, and the number 1
-abbrev ways : Collection → List ℕ → List ℕ → ℕ → Bool → Bool → After
-ways next slots join len t u =
+-- by its two tests: none empty, and the number 1; and by what a message of several pieces comes to
+abbrev ways : Collection → List ℕ → List ℕ → ℕ → Settled → Bool → Bool → After
+ways next slots join len s t u =
     cond t
-    (cond u (after (complete len) next slots join) (after (complete (length (whole next slots))) next slots (whole next slots ++ drop (length (whole next slots)) join)))
+    (cond u (after (complete len) next slots join) (after (s .answer) (s .held) slots (whole next slots ++ drop (length (whole next slots)) join)))
     (after (waiting (lacking next)) next slots join)
 
-kept : (next : Collection) (slots join : List ℕ) (len : ℕ) → (finished next slots join len .held ≡ next) × (finished next slots join len .slots ≡ slots)
-unfolding finished
-kept next slots join len = go (eqb (lacking next) 0) (eqb (next .number) 1) where
-  go : (t u : Bool) → (ways next slots join len t u .held ≡ next) × (ways next slots join len t u .slots ≡ slots)
-  go true true = (refl, refl)
-  go true false = (refl, refl)
-  go false u = (refl, refl)
+module _ (st : ℕ) (b : List ℕ) (fit : Fits b) (join : List ℕ) where
+  -- the piece is stored and noted in a record that then has the run
+  module _ (run : List (List ℕ)) (next : Collection) (slots : List ℕ) (busy′ : Rep st (b ∷ run) next slots) (setting : next .strict ≡ st)
+      (n-is : next .number ≡ numberOf b) (lack-is : lacking next ≡ missing (lookup (b ∷ run)) (numberOf b)) (whole-is : whole next slots ≡ message (lookup (b ∷ run)) (numberOf b))
+      (cuts-is : cutsIn (whole next slots) (next .lengths) (next .number) ≡ cutsIn (message (lookup (b ∷ run)) (numberOf b)) (lengthsTo (lookup (b ∷ run)) (numberOf b)) (numberOf b))
+      (one : next .number ≡ 1 → pieceOf b ≡ whole next slots) (room : 24000 ≤ length slots) where
+    abbrev verdict : Ruling
+    verdict = judged (strictly st) (lookup (b ∷ run)) (numberOf b)
 
--- a message of one piece is the body's
-told-finished : (next : Collection) (slots join b m : List ℕ) → m ≡ whole next slots → (next .number ≡ 1 → pieceOf b ≡ m)
-    → told (finished next slots join (length b - 3)) b ≡ cond (eqb (lacking next) 0) (reply (complete (length m)) m) (reply (waiting (lacking next)) [])
-unfolding finished lentOf
-told-finished next slots join b m is one = rw is (go (eqb (lacking next) 0) (eqb (next .number) 1) refl) where
-  go : (t u : Bool) → eqb (next .number) 1 ≡ u → told (ways next slots join (length b - 3) t u) b
-      ≡ cond t (reply (complete (length (whole next slots))) (whole next slots)) (reply (waiting (lacking next)) [])
-  go true true e =
-      let f : pieceOf b ≡ whole next slots = one (eqb-true (next .number) 1 e) ∙ is in
-      rw (e, ← length-drop 3 b, f) refl
-  go true false e = rw (e, take-append-seam (whole next slots) (drop (length (whole next slots)) join)) refl
-  go false u e = refl
+    abbrev Goal′ : After → Bool → Ruling → Type 0
+    Goal′ R t v = Tracks st (cond t (runBy v (b ∷ run)) (b ∷ run))
+        (cond t (replyBy v (message (lookup (b ∷ run)) (numberOf b))) (reply (waiting (missing (lookup (b ∷ run)) (numberOf b))) [])) R b
 
--- what an accepted body makes of a run, and what is replied
-abbrev follows : List (List ℕ) → List ℕ → List (List ℕ)
-follows run b = cond (continues run b) (b ∷ run) (b ∷ [])
+    settled-is : settled next (whole next slots) ≡ settledBy verdict next (whole next slots)
+    unfolding settled judged
+    settled-is = rw (setting, cuts-is) refl
 
-abbrev answers : List (List ℕ) → List ℕ → List (List ℕ) → Reply
-answers run b next = cond (continues run b && isFull (lookup run (slotOf b))) (reply again []) (storedReply next (numberOf b))
+    -- a message of one piece is the body's, and has no cut
+    alone : eqb (next .number) 1 ≡ true → Goal′ (after (complete (length b - 3)) next slots join) true verdict
+    unfolding judged lentOf
+    alone e =
+        let f : pieceOf b ≡ whole next slots = one (eqb-true (next .number) 1 e) in
+        let g : verdict ≡ allGood = none (strictly st) in
+        rw g (record { rep = busy′; reply-is = rw (e, ← length-drop 3 b, f, whole-is) refl }) where
+          none : (t : Bool) → cond t (cutsIn (message (lookup (b ∷ run)) (numberOf b)) (lengthsTo (lookup (b ∷ run)) (numberOf b)) (numberOf b)) allGood ≡ allGood
+          none true = cutsIn-one _ _ _ (omega (arith, eqb-true (next .number) 1 e))
+          none false = refl
 
-module _ (b : List ℕ) (fit : Fits b) (join : List ℕ) where
-  stored-tracks : (run : List (List ℕ)) (base : Collection) (slots : List ℕ) → Slots run base slots → base .count ≡ countOf b → base .number ≡ numberOf b
-      → Tracks (b ∷ run) (storedReply (b ∷ run) (numberOf b)) (finished (noted base (slotOf b) (length b - 3)) (pasted slots (slotOf b * 1500) (pieceOf b)) join (length b - 3)) b
+    -- a message of several pieces is joined, and lent or dropped
+    several : eqb (next .number) 1 ≡ false → (v : Ruling) → Goal′ (after (settledBy v next (whole next slots) .answer) (settledBy v next (whole next slots) .held) slots (whole next slots ++ drop (length (whole next slots)) join)) true v
+    unfolding lentOf
+    several e allGood = record { rep = busy′; reply-is = rw (e, take-append-seam (whole next slots) (drop (length (whole next slots)) join), whole-is) refl }
+    several e (badAt cut) = record { rep = idle (emptyCollection (next .strict) 0 0) slots room (blank-nothing (next .strict)) setting; reply-is = refl }
+
+    stored-after : Tracks st (settledRun (strictly st) (b ∷ run) (numberOf b)) (storedReply (strictly st) (b ∷ run) (numberOf b)) (finished next slots join (length b - 3)) b
+    unfolding finished settledRun lentOf
+    stored-after = rw (settled-is, lack-is) (go (eqb (missing (lookup (b ∷ run)) (numberOf b)) 0) (eqb (next .number) 1) refl) where
+      go : (t u : Bool) → eqb (next .number) 1 ≡ u → Goal′ (cond t
+          (cond u (after (complete (length b - 3)) next slots join)
+          (after (settledBy verdict next (whole next slots) .answer) (settledBy verdict next (whole next slots) .held) slots (whole next slots ++ drop (length (whole next slots)) join)))
+          (after (waiting (missing (lookup (b ∷ run)) (numberOf b))) next slots join)) t verdict
+      go true true e = alone e
+      go true false e = several e verdict
+      go false u e = record { rep = busy′; reply-is = refl }
+
+  stored-tracks : (run : List (List ℕ)) (base : Collection) (slots : List ℕ) → Slots run base slots → base .count ≡ countOf b → base .number ≡ numberOf b → base .strict ≡ st
+      → Tracks st (settledRun (strictly st) (b ∷ run) (numberOf b)) (storedReply (strictly st) (b ∷ run) (numberOf b))
+      (finished (noted base (slotOf b) (length b - 3)) (pasted slots (slotOf b * 1500) (pieceOf b)) join (length b - 3)) b
   unfolding joined
-  stored-tracks run base slots s c n =
+  stored-tracks run base slots s c n z =
       let S = put b fit run base slots n s in
       let nx = noted base (slotOf b) (length b - 3) in
-      let st = pasted slots (slotOf b * 1500) (pieceOf b) in
-      let hf = kept nx st join (length b - 3) in
+      let ps = pasted slots (slotOf b * 1500) (pieceOf b) in
       let own = lookup-own b run in
-      let wm : wellMade nx ≡ true = well (b ∷ run) nx st S (omega arith) (slotOf b) (omega arith) (rw own refl) in
-      let one : (nx .number ≡ 1 → pieceOf b ≡ joined st (nx .lengths) (nx .number)) = λ e.
+      let wm : wellMade nx ≡ true = well (b ∷ run) nx ps S (omega arith) (slotOf b) (omega arith) (rw own refl) in
+      let one : (nx .number ≡ 1 → pieceOf b ≡ joined ps (nx .lengths) (nx .number)) = λ e.
       let z : slotOf b ≡ 0 = omega arith in
       rw e (sym (S .each 0 (omega arith) .has .bytes ∙ ap bytesOf (ap (lookup (b ∷ run)) (sym z) ∙ own))) in
-      record {
-        rep = rw (hf .0, hf .1) (busy b run nx st S c n wm);
-        reply-is =
-            told-finished nx st join b (joined st (nx .lengths) (nx .number)) refl one
-            ∙ rw (missing-is (b ∷ run) nx st S (nx .number) (omega arith), message-is (b ∷ run) nx st S (nx .number) (omega arith), n) refl;
-      }
+      let m = message-is (b ∷ run) nx ps S (nx .number) (omega arith) in
+      stored-after run nx ps (busy b run nx ps S c n wm z) z n
+      (missing-is (b ∷ run) nx ps S (nx .number) (omega arith) ∙ ap (missing (lookup (b ∷ run))) n)
+      (m ∙ ap (message (lookup (b ∷ run))) n)
+      (cutsIn-same (joined ps (nx .lengths) (nx .number)) (nx .lengths) (lengthsTo (lookup (b ∷ run)) (nx .number)) (nx .number) (lengths-is (b ∷ run) nx ps S (nx .number) (omega arith))
+      ∙ rw (m, n) refl)
+      one (S .room)
 
   -- ---- the three ways a body that is not refused goes
 
   abbrev Goal : List (List ℕ) → Collection → List ℕ → Type 0
-  Goal run r slots = Tracks (follows run b) (answers run b (follows run b)) (accepted r slots join b) b
+  Goal run r slots = Tracks st (nextRun (strictly st) run b) (answerTo (strictly st) run b) (accepted r slots join b) b
 
-  starts : (run : List (List ℕ)) (r : Collection) (slots : List ℕ) → 24000 ≤ length slots → continues run b ≡ false → relationOf r slots b ≡ anew → Goal run r slots
+  starts : (run : List (List ℕ)) (r : Collection) (slots : List ℕ) → 24000 ≤ length slots → r .strict ≡ st → continues run b ≡ false → relationOf r slots b ≡ anew → Goal run r slots
   unfolding accepted baseOf
-  starts run r slots room e f = rw (e, f) (stored-tracks [] (emptyCollection (countOf b) (numberOf b)) slots (none-held (countOf b) (numberOf b) slots room) refl refl)
+  starts run r slots room z e f =
+      rw (e, f) (stored-tracks [] (emptyCollection (r .strict) (countOf b) (numberOf b)) slots (none-held (r .strict) (countOf b) (numberOf b) slots room) refl refl z)
 
-  more : (run : List (List ℕ)) (r : Collection) (slots : List ℕ) → Slots run r slots → r .count ≡ countOf b → r .number ≡ numberOf b
+  more : (run : List (List ℕ)) (r : Collection) (slots : List ℕ) → Slots run r slots → r .count ≡ countOf b → r .number ≡ numberOf b → r .strict ≡ st
       → continues run b ≡ true → lookup run (slotOf b) ≡ empty → relationOf r slots b ≡ goesOn → Goal run r slots
   unfolding accepted baseOf
-  more run r slots s c n e g f = rw (e, g, f) (stored-tracks run r slots s c n)
+  more run r slots s c n z e g f = rw (e, g, f) (stored-tracks run r slots s c n z)
 
-  repeated : (run : List (List ℕ)) (r : Collection) (slots : List ℕ) → Slots run r slots → r .count ≡ countOf b → r .number ≡ numberOf b
+  comes-again : (run : List (List ℕ)) (r : Collection) (slots : List ℕ) → Slots run r slots → r .count ≡ countOf b → r .number ≡ numberOf b → r .strict ≡ st
       → wellMade r ≡ true → continues run b ≡ true → lookup run (slotOf b) ≡ full (pieceOf b) → relationOf r slots b ≡ repeats → Goal run r slots
   unfolding accepted lentOf
-  repeated run r slots s c n w e g f = rw (e, g, f) (record { rep = busy b run r slots (put-same b run r slots s g) c n w; reply-is = refl })
+  comes-again run r slots s c n z w e g f = rw (e, g, f) (record { rep = busy b run r slots (put-same b run r slots s g) c n w z; reply-is = refl })
 
   module _ (x : List ℕ) (xs : List (List ℕ)) (r : Collection) (slots : List ℕ)
-      (s : Slots (x ∷ xs) r slots) (c : r .count ≡ countOf x) (n : r .number ≡ numberOf x) (w : wellMade r ≡ true) where
+      (s : Slots (x ∷ xs) r slots) (c : r .count ≡ countOf x) (n : r .number ≡ numberOf x) (w : wellMade r ≡ true) (z : r .strict ≡ st) where
     -- what the run has in the body's slot; is the body of the record's count and number
     abbrev there : Slot
     there = lookup (x ∷ xs) (slotOf b)
@@ -164,37 +195,45 @@ module _ (b : List ℕ) (fit : Fits b) (join : List ℕ) where
       last : (q : List ℕ) (t : Bool) → sameBytes q (pieceOf b) ≡ t → sameCount ≡ true → sameNumber ≡ true → there ≡ full q → Goal (x ∷ xs) r slots
       last q true e d f g =
           let held = g ∙ ap full (sameBytes-true q (pieceOf b) e) in
-          repeated (x ∷ xs) r slots s (eqb-true _ _ d) (eqb-true _ _ f) w (cont ∙ rw (d, f, g) e) held (rel ∙ rw (d, f, g, e) refl)
-      last q false e d f g = starts (x ∷ xs) r slots (s .room) (cont ∙ rw (d, f, g) e) (rel ∙ rw (d, f, g, e) refl)
+          comes-again (x ∷ xs) r slots s (eqb-true _ _ d) (eqb-true _ _ f) z w (cont ∙ rw (d, f, g) e) held (rel ∙ rw (d, f, g, e) refl)
+      last q false e d f g = starts (x ∷ xs) r slots (s .room) z (cont ∙ rw (d, f, g) e) (rel ∙ rw (d, f, g, e) refl)
 
       go : (t : Bool) → sameCount ≡ t → (u : Bool) → sameNumber ≡ u → (l : Slot) → there ≡ l → Goal (x ∷ xs) r slots
-      go false d u f l g = starts (x ∷ xs) r slots (s .room) (cont ∙ rw d refl) (rel ∙ rw d refl)
-      go true d false f l g = starts (x ∷ xs) r slots (s .room) (cont ∙ rw (d, f) refl) (rel ∙ rw (d, f) refl)
-      go true d true f empty g = more (x ∷ xs) r slots s (eqb-true _ _ d) (eqb-true _ _ f) (cont ∙ rw (d, f, g) refl) g (rel ∙ rw (d, f, g) refl)
+      go false d u f l g = starts (x ∷ xs) r slots (s .room) z (cont ∙ rw d refl) (rel ∙ rw d refl)
+      go true d false f l g = starts (x ∷ xs) r slots (s .room) z (cont ∙ rw (d, f) refl) (rel ∙ rw (d, f) refl)
+      go true d true f empty g = more (x ∷ xs) r slots s (eqb-true _ _ d) (eqb-true _ _ f) z (cont ∙ rw (d, f, g) refl) g (rel ∙ rw (d, f, g) refl)
       go true d true f (full q) g = last q (sameBytes q (pieceOf b)) refl d f g
 
-  any-goal : (run : List (List ℕ)) (r : Collection) (slots : List ℕ) → Rep run r slots → Goal run r slots
+  any-goal : (run : List (List ℕ)) (r : Collection) (slots : List ℕ) → Rep st run r slots → Goal run r slots
   unfolding continues relationTo isOf
-  any-goal run rr ss (idle r slots room w) = starts [] r slots room refl (rw w refl)
-  any-goal run rr ss (busy x xs r slots s c n w) = busy-goal x xs r slots s c n w
+  any-goal run rr ss (idle r slots room w z) = starts [] r slots room z refl (rw w refl)
+  any-goal run rr ss (busy x xs r slots s c n w z) = busy-goal x xs r slots s c n w z
 
 -- ---- one step
 
-pub finished-held : (next : Collection) (slots join : List ℕ) (len : ℕ) → finished next slots join len .held ≡ next
-finished-held next slots join len = kept next slots join len .0
+pub finished-held : (next : Collection) (slots join : List ℕ) (len : ℕ) {n : ℕ} → finished next slots join len .answer ≡ complete n → finished next slots join len .held ≡ next
+unfolding finished settled
+finished-held next slots join len {n} = go (eqb (lacking next) 0) (eqb (next .number) 1) (cond (isStrict next) (cutsIn (whole next slots) (next .lengths) (next .number)) allGood) where
+  R : Bool → Bool → Ruling → After
+  R t u v = ways next slots join len (settledBy v next (whole next slots)) t u
+
+  go : (t u : Bool) (v : Ruling) → R t u v .answer ≡ complete n → R t u v .held ≡ next
+  go true true v e = refl
+  go true false allGood e = refl
+  go true false (badAt cut) e = absurd (let z : _≡_ {A = ℕ} 0 1 = cc in omega arith)
+  go false u v e = refl
 
 -- with buffers that are long enough the body's own tests decide
 pub refusalOf-long : (slots join : ℕ) (b : List ℕ) → 24000 ≤ slots → 24000 ≤ join → refusalOf slots join b ≡ bodyRefusal b
 unfolding refusalOf
 refusalOf-long slots join b h k = simp (le-ltb slots 24000 h, le-ltb join 24000 k)
 
-pub step : (h : List (List ℕ)) (b : List ℕ) (r : Collection) (slots join : List ℕ) → 24000 ≤ length join → Rep (runOf h) r slots → Tracks (runOf (b ∷ h)) (replyOf h b) (collectStep r slots join b) b
-unfolding collectStep replyOf runOf accepts lentOf
-step h b r slots join k rep = rw (refusalOf-long (length slots) (length join) b (rep-room (runOf h) r slots rep) k) (go (eqb (bodyRefusal b) 0) refl) where
-  next : Bool → List (List ℕ)
-  next t = cond t (follows (runOf h) b) (runOf h)
-
-  go : (t : Bool) → eqb (bodyRefusal b) 0 ≡ t → Tracks (next t) (cond t (answers (runOf h) b (next t)) (reply (refused (bodyRefusal b)) []))
+-- from a record that has a run
+pub step : (st : ℕ) (run : List (List ℕ)) (b : List ℕ) (r : Collection) (slots join : List ℕ) → 24000 ≤ length join → Rep st run r slots
+    → Tracks st (cond (accepts b) (nextRun (strictly st) run b) run) (cond (accepts b) (answerTo (strictly st) run b) (reply (refused (bodyRefusal b)) [])) (collectStep r slots join b) b
+unfolding collectStep accepts lentOf
+step st run b r slots join k rep = rw (refusalOf-long (length slots) (length join) b (rep-room st run r slots rep) k) (go (eqb (bodyRefusal b) 0) refl) where
+  go : (t : Bool) → eqb (bodyRefusal b) 0 ≡ t → Tracks st (cond t (nextRun (strictly st) run b) run) (cond t (answerTo (strictly st) run b) (reply (refused (bodyRefusal b)) []))
       (cond t (accepted r slots join b) (after (refused (bodyRefusal b)) r slots join)) b
-  go true e = any-goal b (fits-of b (eqb-true _ _ e)) join (runOf h) r slots rep
+  go true e = any-goal st b (fits-of b (eqb-true _ _ e)) join run r slots rep
   go false e = record { rep = rep; reply-is = refl }

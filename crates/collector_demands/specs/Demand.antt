@@ -8,6 +8,7 @@
 --   bodyOf count pieces k     the body of piece k
 --   Arrived count pieces h    h has only such bodies and refused ones, in any order and as often as one likes
 --   Came k t                  piece k is among them
+--   Passes message pieces     no piece but the last ends where it may not (document 02, Req 04)
 --   Apart held count n        nothing is collected, or a collection under another count or another number
 --   Demand3 s count message pieces     completion is reported exactly once, at the arrival of the last piece missing, with the message
 --
@@ -16,14 +17,15 @@
 -- Trusts: nothing.
 use Prim.Native.Nat.{ℕ, suc, _+_, _≤_, _<_}
 use mathlib.Core.Path.{_≡_}
-use mathlib.Core.Bool.{false}
+use mathlib.Core.Bool.{true, false}
 use mathlib.Core.List.{List, [], _∷_, _++_}
 use mathlib.Core.Logic.{_⊎_}
 use lib.ListN.{length, getD}
-use Rattle.collector.specs.Answers.{Said, refused, again, waiting, complete, lentOf}
+use Rattle.collector.specs.Answers.{Said, refused, again, waiting, complete, dropped, lentOf}
 use Rattle.held.specs.Held.{wellMade}
 use Rattle.body_tests.specs.Refusals.{bodyRefusal}
 use Rattle.collector.specs.Step.{After, collectStep}
+use Rattle.cuts.specs.Cuts.{mayCut, sumTo}
 use Rattle.collection.specs.declared.Collection.{Collection}
 use Rattle.collector_demands.specs.Runs.{Reply, reply}
 
@@ -53,6 +55,7 @@ isComplete (refused n) = 0
 isComplete again = 0
 isComplete (waiting k) = 0
 isComplete (complete n) = 1
+isComplete (dropped off) = 0
 
 unfoldable pub completions : Lent → List (List ℕ) → ℕ
 completions s [] = 0
@@ -84,6 +87,13 @@ Came k (other b e t) = Came k t
 Came k (piece j l t) = (j ≡ k) ⊎ Came k t
 
 -- ---- the demand
+
+unfoldable pub lengthsOf : List (List ℕ) → List ℕ
+lengthsOf [] = []
+lengthsOf (p ∷ ps) = length p ∷ lengthsOf ps
+
+abbrev pub Passes : List ℕ → List (List ℕ) → Type 0
+Passes message pieces = (k : ℕ) → suc k < length pieces → mayCut message (sumTo (lengthsOf pieces) (suc k)) ≡ true
 
 abbrev pub Apart : Collection → ℕ → ℕ → Type 0
 Apart held count n = (wellMade held ≡ false) ⊎ ((held .count ≡ count → ⊥) ⊎ (held .number ≡ n → ⊥))

@@ -11,9 +11,10 @@ use native.Mathlib.Omega.{arith}
 use lib.ListN.{length, take, drop, length-take, length-drop}
 use lib.Seq.{take-length}
 use lib.Dec.{eqb}
-use Rattle.collector.specs.Answers.{Said, refused, again, waiting, complete, lentOf}
+use Rattle.collection.specs.Record.{isStrict}
+use Rattle.collector.specs.Answers.{Said, refused, again, waiting, complete, dropped, lentOf}
 use Rattle.collector.specs.Step.{After}
-use Rattle.collector_demands.specs.Demand.{Lent, called, lentAfter, isComplete, completions, Cutting, Apart, Demand3}
+use Rattle.collector_demands.specs.Demand.{Lent, called, lentAfter, isComplete, completions, Cutting, Passes, Apart, Demand3}
 use Rattle.collector_demands.proofs.Demands.{demand-3}
 use Rattle.dsg_pieces.specs.Bodies.{collectedOf, CollectAfter, collectedAs}
 use Rattle.collector_lent.specs.Host.{hosts, keeps, hostAfter, holderOf, namedBy, isNamed, named, HostOnce}
@@ -29,6 +30,7 @@ named-complete (complete n) number = go (eqb number 1) refl where
   go : (t : Bool) → eqb number 1 ≡ t → isNamed (collectedOf (complete n) number .kind) ≡ 1
   go true e = rw e refl
   go false e = rw e refl
+named-complete (dropped cut) number = refl
 
 -- and what they name is the message, all of it inside
 abbrev Names : CollectAfter → ℕ → List ℕ → List ℕ → Type 0
@@ -72,5 +74,5 @@ host s count message pieces d = record {
 }
 
 pub demand-3-host : (s : Lent) → 24000 ≤ length (s .slots) → 24000 ≤ length (s .join) → (count : ℕ) (message : List ℕ) (pieces : List (List ℕ)) → Cutting message pieces
-    → Apart (s .held) count (length pieces) → HostOnce s count message pieces
-demand-3-host s room space count message pieces cut apart = host s count message pieces (demand-3 s room space count message pieces cut apart)
+    → (isStrict (s .held) ≡ true → Passes message pieces) → Apart (s .held) count (length pieces) → HostOnce s count message pieces
+demand-3-host s room space count message pieces cut passes apart = host s count message pieces (demand-3 s room space count message pieces cut passes apart)

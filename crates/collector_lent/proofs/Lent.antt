@@ -11,10 +11,11 @@ use mathlib.Core.List.{List, [], _∷_}
 use native.Mathlib.Omega.{arith}
 use lib.ListN.{length}
 use lib.Dec.{eqb}
-use Rattle.collector.specs.Answers.{Said, refused, again, waiting, complete, ownOf, joinedOf, lentOf}
+use Rattle.collection.specs.Record.{isStrict}
+use Rattle.collector.specs.Answers.{Said, refused, again, waiting, complete, dropped, ownOf, joinedOf, lentOf}
 use Rattle.collector.specs.Step.{After}
 use Rattle.collector_demands.specs.Runs.{Reply}
-use Rattle.collector_demands.specs.Demand.{Lent, called, lentAfter, isComplete, Cutting, bodyOf, Arrived, other, piece, Apart, Demand3}
+use Rattle.collector_demands.specs.Demand.{Lent, called, lentAfter, isComplete, Cutting, bodyOf, Arrived, other, piece, Passes, Apart, Demand3}
 use Rattle.collector_demands.specs.Last.{IsLast}
 use Rattle.collector_demands.proofs.Demands.{demand-3}
 use Rattle.collector_demands.proofs.Last.{only-there, complete-number}
@@ -48,6 +49,7 @@ module _ (s : Lent) (count : ℕ) (message : List ℕ) (pieces : List (List ℕ)
     go again x = refl
     go (waiting k) x = refl
     go (complete n) x = absurd (x refl)
+    go (dropped cut) x = refl
 
 -- ---- the two parts
 
@@ -65,6 +67,7 @@ no-part (refused n) number body join e = (refl, refl)
 no-part again number body join e = (refl, refl)
 no-part (waiting k) number body join e = (refl, refl)
 no-part (complete n) number body join e = absurd (omega arith)
+no-part (dropped cut) number body join e = (refl, refl)
 
 kept-is : (s : Lent) (h : List (List ℕ)) → keptAfter s h ≡ lentAfter s h
 unfolding lentStep
@@ -86,5 +89,5 @@ parts s count message pieces d = record {
 }
 
 pub demand-3-parts : (s : Lent) → 24000 ≤ length (s .slots) → 24000 ≤ length (s .join) → (count : ℕ) (message : List ℕ) (pieces : List (List ℕ)) → Cutting message pieces
-    → Apart (s .held) count (length pieces) → LentOnce s count message pieces
-demand-3-parts s room space count message pieces cut apart = parts s count message pieces (demand-3 s room space count message pieces cut apart)
+    → (isStrict (s .held) ≡ true → Passes message pieces) → Apart (s .held) count (length pieces) → LentOnce s count message pieces
+demand-3-parts s room space count message pieces cut passes apart = parts s count message pieces (demand-3 s room space count message pieces cut passes apart)

@@ -43,7 +43,8 @@ use Rattle.held.specs.Held.{wellMade}
 use Rattle.body_tests.specs.Refusals.{numberOf as pieces}
 use Rattle.collector.specs.Step.{After}
 use Rattle.collection.specs.declared.Collection.{Collection}
-use Rattle.collector_demands.specs.Runs.{accepts, lookup, runOf, missing, Reply}
+use Rattle.collector_demands.specs.Runs.{accepts, lookup, stored, runOf, missing, Reply}
+use Rattle.collection.specs.Record.{isStrict}
 use Rattle.collector_demands.specs.Demand.{Lent, isComplete}
 use Rattle.collector_demands.proofs.Controls as collector
 
@@ -106,5 +107,5 @@ module _ (f : Collection → List ℕ → List ℕ → List ℕ → After) (meet
         let waits = ap (λ (r : Reply). isComplete (r .answer)) (collector.no-first-piece-completes f meets s room space nothing b a two) in
         omega arith
 
-    pub no-invented-slots : (h : List (List ℕ)) (b : List ℕ) (k : ℕ) → (k ≡ missing (lookup (runOf (b ∷ h))) (pieces b) → ⊥) → collector.replyBy f meets s h b .answer ≡ waiting k → ⊥
+    pub no-invented-slots : (h : List (List ℕ)) (b : List ℕ) (k : ℕ) → (k ≡ missing (lookup (stored (runOf (isStrict (s .held)) h) b)) (pieces b) → ⊥) → collector.replyBy f meets s h b .answer ≡ waiting k → ⊥
     no-invented-slots h b k other answers = other (collector.no-invented-slots f meets s room space nothing h b k answers)

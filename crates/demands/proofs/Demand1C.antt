@@ -20,7 +20,7 @@ use mathlib.Core.Logic.{_⊎_}
 use native.Mathlib.Omega.{arith}
 use lib.ListN.{length}
 use lib.Dec.{eqb}
-use Rattle.collector.specs.Answers.{Said, refused, again, waiting, complete, Place, inBody, placeOf}
+use Rattle.collector.specs.Answers.{Said, refused, again, waiting, complete, dropped, Place, inBody, placeOf}
 use Rattle.collector.specs.Step.{After, collectStep}
 use Rattle.collection.specs.declared.Collection.{Collection}
 use Rattle.table.specs.declared.Table.{Table}
@@ -61,6 +61,7 @@ refused-kind : (s : Said) (number : ℕ) → collectedOf s number .kind ≡ 0 �
 refused-kind (refused n) number e = refl
 refused-kind again number e = absurd (omega arith)
 refused-kind (waiting k) number e = absurd (omega arith)
+refused-kind (dropped cut) number e = absurd (omega arith)
 refused-kind (complete n) number e = absurd (complete-kind (placeOf (complete n) number) e)
 
 pub collectAfter-refused : (r : Collection) (slots join body : List ℕ) → (let x = collectAfter r slots join body in x .answer .kind ≡ 0
@@ -76,6 +77,7 @@ body-kind told.again e = absurd (omega arith)
 body-kind (told.waiting k) e = absurd (omega arith)
 body-kind told.accepted e = absurd (omega arith)
 body-kind (told.messageRefused n off) e = absurd (omega arith)
+body-kind (told.dropped cut) e = absurd (omega arith)
 
 message-kind : (a : Told) → receivedOf a .kind ≡ 4 → a ≡ told.messageRefused (receivedOf a .number) (receivedOf a .offset)
 message-kind (told.bodyRefused n) e = absurd (omega arith)
@@ -83,6 +85,7 @@ message-kind told.again e = absurd (omega arith)
 message-kind (told.waiting k) e = absurd (omega arith)
 message-kind told.accepted e = absurd (omega arith)
 message-kind (told.messageRefused n off) e = refl
+message-kind (told.dropped cut) e = absurd (omega arith)
 
 pub receiveAfter-refused : (r : Collection) (t : Table) (slots join body : List ℕ) → (let x = receiveAfter r t slots join body in x .answer .kind ≡ 0
     → (x .held ≡ r) × (x .table ≡ t) × (x .slots ≡ slots) × (x .join ≡ join) × (1 ≤ x .answer .number) × (x .answer .number ≤ 5))

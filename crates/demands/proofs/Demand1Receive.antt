@@ -1,6 +1,7 @@
 -- Demand1Receive: the first demand of one body all the way (`receive`): what a refusal leaves, and its numbers.
 --
 --   receiveStep-refused    a refused body: 1 to 5; the record, the table and both buffers are as they were
+--   receiveStep-dropped    a strict collection with a bad cut, 21: the table is as it was, the record empty but for its setting, both buffers as at Complete
 --   receiveStep-message    a refused message: the number and the offset that reading it gives, 3 at 0, or 6 to 15 at a byte of the message; the
 --                          table is as it was, and the record and the buffers are those of the body, which the collector accepted
 --                          (docs/DECISIONS.md, D-061)
@@ -13,7 +14,7 @@ use mathlib.Core.List.{List}
 use mathlib.Core.Logic.{_⊎_}
 use native.Mathlib.Omega.{arith}
 use lib.ListN.{length}
-use Rattle.collector.specs.Answers.{Said, refused, again, waiting, complete, lentOf}
+use Rattle.collector.specs.Answers.{Said, refused, again, waiting, complete, dropped, lentOf}
 use Rattle.collector.specs.Step.{After, collectStep}
 use Rattle.collection.specs.declared.Collection.{Collection}
 use Rattle.table.specs.declared.Table.{Table}
@@ -22,7 +23,8 @@ use Rattle.reader.specs.declared.Verdict.{Verdict}
 use Rattle.reader.specs.declared.Verdict.the-variants as reading
 use Rattle.receiver.specs.Receive as told
 use Rattle.receiver.specs.Receive.{reported, taken, receiveStep}
-use Rattle.demands.proofs.Demand1.{collectStep-refused, readTable-refused}
+use Rattle.demands.proofs.Demand1.{collectStep-refused, loose, Dropping, collectStep-dropped, readTable-refused}
+use Rattle.collection.specs.Record.{emptyCollection}
 
 reported-refused : (v : Verdict) (n : ℕ) → reported v ≡ told.bodyRefused n → ⊥
 reported-refused reading.Accepted n e = let z : _≡_ {A = ℕ} 0 1 = cc in omega arith
@@ -39,6 +41,7 @@ taken-refused (refused m) t message n e = cc
 taken-refused again t message n e = absurd (let z : _≡_ {A = ℕ} 0 1 = cc in omega arith)
 taken-refused (waiting k) t message n e = absurd (let z : _≡_ {A = ℕ} 0 1 = cc in omega arith)
 taken-refused (complete k) t message n e = absurd (reported-refused (readTable t message .verdict) n e)
+taken-refused (dropped cut) t message n e = absurd (let z : _≡_ {A = ℕ} 0 1 = cc in omega arith)
 
 -- only what the reader refuses is reported as a refused message
 taken-message : (s : Said) (t : Table) (message : List ℕ) (n off : ℕ) → taken s t message .report ≡ told.messageRefused n off
@@ -48,6 +51,7 @@ taken-message (refused m) t message n off e = absurd (let z : _≡_ {A = ℕ} 0 
 taken-message again t message n off e = absurd (let z : _≡_ {A = ℕ} 0 1 = cc in omega arith)
 taken-message (waiting k) t message n off e = absurd (let z : _≡_ {A = ℕ} 0 1 = cc in omega arith)
 taken-message (complete k) t message n off e = (reported-message (readTable t message .verdict) n off e, refl)
+taken-message (dropped cut) t message n off e = absurd (let z : _≡_ {A = ℕ} 0 1 = cc in omega arith)
 
 pub receiveStep-refused : (r : Collection) (t : Table) (slots join body : List ℕ) (n : ℕ) → receiveStep r t slots join body .report ≡ told.bodyRefused n
     → (receiveStep r t slots join body ≡ record { report = told.bodyRefused n; held = r; table = t; slots = slots; join = join }) × (1 ≤ n) × (n ≤ 5)
@@ -55,6 +59,27 @@ unfolding receiveStep taken
 receiveStep-refused r t slots join body n e =
     let c = collectStep-refused r slots join body n (taken-refused _ t _ n e) in
     (rw (c .0) refl, c .1, c .2)
+
+reported-dropped : (v : Verdict) (off : ℕ) → reported v ≡ told.dropped off → ⊥
+reported-dropped reading.Accepted off e = let z : _≡_ {A = ℕ} 0 1 = cc in omega arith
+reported-dropped (reading.Refused m k) off e = let z : _≡_ {A = ℕ} 0 1 = cc in omega arith
+
+taken-dropped : (s : Said) (t : Table) (message : List ℕ) (off : ℕ) → taken s t message .report ≡ told.dropped off → s ≡ dropped off
+unfolding taken
+taken-dropped (refused m) t message off e = absurd (let z : _≡_ {A = ℕ} 0 1 = cc in omega arith)
+taken-dropped again t message off e = absurd (let z : _≡_ {A = ℕ} 0 1 = cc in omega arith)
+taken-dropped (waiting k) t message off e = absurd (let z : _≡_ {A = ℕ} 0 1 = cc in omega arith)
+taken-dropped (complete k) t message off e = absurd (reported-dropped (readTable t message .verdict) off e)
+taken-dropped (dropped cut) t message off e = cc
+
+pub receiveStep-dropped : (r : Collection) (t : Table) (slots join body : List ℕ) (off : ℕ) → receiveStep r t slots join body .report ≡ told.dropped off
+    → (let l = collectStep (loose r) slots join body in
+    (receiveStep r t slots join body ≡ record { report = told.dropped off; held = emptyCollection (r .strict) 0 0; table = t; slots = l .slots; join = l .join })
+    × Dropping r off (collectStep r slots join body) l)
+unfolding receiveStep taken
+receiveStep-dropped r t slots join body off e =
+    let d = collectStep-dropped r slots join body off (taken-dropped _ t _ off e) in
+    (rw (d .left) refl, d)
 
 -- the message that the collector lends
 abbrev pub messageAfter : After → List ℕ → List ℕ

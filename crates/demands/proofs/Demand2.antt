@@ -58,7 +58,7 @@ pub joined_part-gives : (κs : Lfts 1) → Gives {L = Part} (λ x s. part (x .pt
     (λ a. joinedPart (said (a .0 .answer)) (a .0 .held .number) (part (a .1 .0 .ptr) (now (a .1 .0))))
 joined_part-gives κs a x s h = h
 
-pub empty_collection-gives : (κs : Lfts 0) → Gives answer (empty_collection.Post κs) (λ a. emptyCollection 0 0)
+pub empty_collection-gives : (κs : Lfts 0) → Gives answer (empty_collection.Post κs) (λ a. emptyCollection (a .0) 0 0)
 empty_collection-gives κs a x s h = h
 
 -- the same with the message lent as a part, and the join buffer whole: what is seen of it, and where the parts and the buffer stand

@@ -16,12 +16,14 @@
 use Prim.Native.Nat.{ℕ, _≤_, _<_}
 use mathlib.Core.Path.{_≡_, ap}
 use mathlib.Core.List.{List}
+use mathlib.Core.Bool.{true}
+use Rattle.collection.specs.Record.{isStrict}
 use lib.ListN.{length}
 use Rattle.table.specs.declared.Table.{Table}
 use Rattle.reader.specs.Read.{readTable}
 use Rattle.collector_demands.specs.Runs.{Reply}
 use Rattle.collector_demands.specs.Demand as collected
-use Rattle.collector_demands.specs.Demand.{Lent, replyTo, Cutting, bodyOf, Arrived, Came, Apart}
+use Rattle.collector_demands.specs.Demand.{Lent, replyTo, Cutting, bodyOf, Arrived, Came, Passes, Apart}
 use Rattle.collector_demands.specs.Last.{OnlyThere}
 use Rattle.collector_demands.proofs.Last.{only-there}
 use Rattle.collector_lent.specs.Lent.{LentOnce}
@@ -41,9 +43,9 @@ pub record EndToEnd (s : Lent) (count : ℕ) (message : List ℕ) (pieces : List
       → ((j : ℕ) → j < length pieces → (j ≡ k → ⊥) → Came j t) → (given : Table) → readTable given (replyTo s h (bodyOf count pieces k) .lent) ≡ readTable given message
 
 pub demand-3 : (s : Lent) → 24000 ≤ length (s .slots) → 24000 ≤ length (s .join) → (count : ℕ) (message : List ℕ) (pieces : List (List ℕ)) → Cutting message pieces
-    → Apart (s .held) count (length pieces) → EndToEnd s count message pieces
-demand-3 s room space count message pieces cut apart =
-    let d = collected-proved.demand-3 s room space count message pieces cut apart in
+    → (isStrict (s .held) ≡ true → Passes message pieces) → Apart (s .held) count (length pieces) → EndToEnd s count message pieces
+demand-3 s room space count message pieces cut passes apart =
+    let d = collected-proved.demand-3 s room space count message pieces cut passes apart in
     record { completed = d; read = λ t k l missing others given. ap (λ (r : Reply). readTable given (r .lent)) (d .last t k l missing others) }
 
 pub demand-3-there : (s : Lent) → 24000 ≤ length (s .slots) → 24000 ≤ length (s .join) → (count : ℕ) (message : List ℕ) (pieces : List (List ℕ)) → Cutting message pieces
@@ -65,5 +67,5 @@ uncut-short = length-cut
 
 -- the same of the receiver's own step, over the whole history: crate receiver_demands
 pub demand-3-received : (s : Kept) → 24000 ≤ length (s .slots) → 24000 ≤ length (s .join) → (count : ℕ) (message : List ℕ) (pieces : List (List ℕ)) → Cutting message pieces
-    → Apart (s .held) count (length pieces) → ReadOnce s count message pieces
+    → (isStrict (s .held) ≡ true → Passes message pieces) → Apart (s .held) count (length pieces) → ReadOnce s count message pieces
 demand-3-received = demand-3-read

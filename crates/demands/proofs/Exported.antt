@@ -49,7 +49,7 @@ pub dsg_receive-gives : WalkedGives dsg_receive.ended (λ M 𝓤 H. dsg_receive.
     (λ κs a. receiveAfter (now (a .0)) (now (a .1 .0)) (now (a .1 .1 .0)) (now (a .1 .1 .1 .0)) (now (a .1 .1 .1 .1 .0)))
 dsg_receive-gives = fixed (λ M 𝓤 H A mem run κs a g x s. refl)
 
-pub dsg_empty_collection-gives : (κs : Lfts 0) → Gives answer (dsg_empty_collection.Post κs) (λ a. emptyCollection 0 0)
+pub dsg_empty_collection-gives : (κs : Lfts 0) → Gives answer (dsg_empty_collection.Post κs) (λ a. emptyCollection (a .0) 0 0)
 dsg_empty_collection-gives κs a x s h = h
 
 -- ---- tables: the answer, and the table or the buffer

@@ -5,13 +5,14 @@
 -- Trusts: nothing.
 use Prim.Native.Nat.{ℕ}
 use mathlib.Core.Path.{_≡_, refl, ap, _∙_}
+use mathlib.Core.Bool.{false}
 use mathlib.Core.List.{List, [], _∷_}
 use lib.ListN.{getD, replicate}
 use Rattle.compare.specs.Compare.{sameBytes}
 use Rattle.table.specs.Table.{emptyTable, limitedTo, rulesOf, classifiersOf, channelsOf, clientsOf, numbersOf}
 use Rattle.collector.specs.Answers.{complete}
 use Rattle.body_tests.specs.Refusals.{bodyRefusal}
-use Rattle.collector_demands.specs.Runs.{accepts, lookup, continues, runOf, missing, message, Reply, reply, replyOf}
+use Rattle.collector_demands.specs.Runs.{accepts, lookup, continues, runFrom, missing, message, judged, Reply, reply, replyFrom, replyOf}
 use Rattle.collector_demands.proofs.Bench.{M}
 use Rattle.reader.specs.Read.{readTable}
 use Rattle.reader.specs.declared.Reading.{Reading}
@@ -27,8 +28,8 @@ abbrev wholeM : List ℕ
 wholeM = 7 ∷ 1 ∷ 1 ∷ M
 
 -- the one piece completes the message
-collected : replyOf [] wholeM ≡ reply (complete 52) M
-unfolding replyOf accepts lookup continues runOf missing message bodyRefusal sameBytes
+collected : replyOf false [] wholeM ≡ reply (complete 52) M
+unfolding replyFrom accepts lookup continues runFrom judged missing message bodyRefusal sameBytes
 collected = refl
 
 text-M : tableText 7 tableM

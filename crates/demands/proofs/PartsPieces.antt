@@ -36,7 +36,7 @@ use Rattle.notices.proofs.list_waiting.Reads as list_waiting
 
 -- ---- collection, held, joining, relation, body_tests
 
-pub begin-gives : (κs : Lfts 0) → Gives answer (begin.Post κs) (λ a. emptyCollection (a .0) (a .1 .0))
+pub begin-gives : (κs : Lfts 0) → Gives answer (begin.Post κs) (λ a. emptyCollection (a .0) (a .1 .0) (a .1 .1 .0))
 begin-gives κs a x s h = h
 
 pub is_of-gives : (κs : Lfts 0) → Gives answer (is_of.Post κs) (λ a. isOf (a .0) (a .1 .0) (a .1 .1 .0))

@@ -63,7 +63,7 @@ application = record { kind = 4; value = 42 }
 
 -- what is lent: nothing collected, and two buffers
 abbrev lent : List ℕ → List ℕ → Lent
-lent slots join = record { held = emptyCollection 0 0; slots = slots; join = join }
+lent slots join = record { held = emptyCollection 0 0 0; slots = slots; join = join }
 
 abbrev pub examples : Table → List ℕ → List ℕ → List Outcome
 examples given slots join =

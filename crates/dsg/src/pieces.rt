@@ -44,10 +44,10 @@ pub extern "C" fn dsg_receive(
     s.answer
 }
 
-// A record with nothing collected.
+// A record with nothing collected, loose (0) or strict.
 #[no_mangle]
-pub extern "C" fn dsg_empty_collection() -> Collection
-    ensures { λ r. ⌜ r ≡ emptyCollection 0 0 ⌝ }
+pub extern "C" fn dsg_empty_collection(strict: u16) -> Collection
+    ensures { λ r. ⌜ r ≡ emptyCollection strict 0 0 ⌝ }
 {
-    collection::empty_collection()
+    collection::empty_collection(strict)
 }

@@ -6,14 +6,14 @@
 --   receivedOf a              a report of the receiver
 --   receiveAfter r t slots join body   what a host has after `dsg_receive`: the answer, the record, the table and both buffers
 --
--- Kinds of a collected body: 0 refused, 1 repeat, 2 waiting, 3 complete and lent from the body, 4 complete and lent from the join buffer.
--- Kinds of a received one: 0 refused, 1 repeat, 2 waiting, 3 the table accepted, 4 the message refused.
+-- Kinds of a collected body: 0 refused, 1 repeat, 2 waiting, 3 complete and lent from the body, 4 complete and lent from the join buffer, 5 dropped.
+-- Kinds of a received one: 0 refused, 1 repeat, 2 waiting, 3 the table accepted, 4 the message refused, 5 dropped.
 -- What a kind does not use is 0. Trusts: nothing.
 use Prim.Native.Nat.{ℕ}
 use mathlib.Core.Bool.{cond}
 use mathlib.Core.List.{List}
 use lib.Dec.{eqb}
-use Rattle.collector.specs.Answers.{Said, refused, again, waiting, complete, Place, inBody, placeOf}
+use Rattle.collector.specs.Answers.{Said, refused, again, waiting, complete, dropped, Place, inBody, placeOf}
 use Rattle.collector.specs.Step.{After, collectStep}
 use Rattle.collection.specs.declared.Collection.{Collection}
 use Rattle.table.specs.declared.Table.{Table}
@@ -24,16 +24,17 @@ use Rattle.dsg_pieces.specs.declared.Received.{Received}
 
 -- a message that is complete, by where it stands
 abbrev pub completeAt : Place → Collected
-completeAt p = record { kind = cond (eqb (p .source) inBody) 3 4; number = 0; empty = 0; start = p .start; length = p .length }
+completeAt p = record { kind = cond (eqb (p .source) inBody) 3 4; number = 0; empty = 0; start = p .start; length = p .length; offset = 0 }
 
 abbrev pub completeOf : ℕ → ℕ → Collected
 completeOf n number = completeAt (placeOf (complete n) number)
 
 abbrev pub collectedOf : Said → ℕ → Collected
-collectedOf (refused n) number = record { kind = 0; number = n; empty = 0; start = 0; length = 0 }
-collectedOf again number = record { kind = 1; number = 0; empty = 0; start = 0; length = 0 }
-collectedOf (waiting k) number = record { kind = 2; number = 0; empty = k; start = 0; length = 0 }
+collectedOf (refused n) number = record { kind = 0; number = n; empty = 0; start = 0; length = 0; offset = 0 }
+collectedOf again number = record { kind = 1; number = 0; empty = 0; start = 0; length = 0; offset = 0 }
+collectedOf (waiting k) number = record { kind = 2; number = 0; empty = k; start = 0; length = 0; offset = 0 }
 collectedOf (complete n) number = completeOf n number
+collectedOf (dropped cut) number = record { kind = 5; number = 21; empty = 0; start = 0; length = 0; offset = cut }
 
 pub record CollectAfter : Type 0 where
   pub answer : Collected
@@ -53,6 +54,7 @@ receivedOf receiver.again = record { kind = 1; number = 0; empty = 0; offset = 0
 receivedOf (receiver.waiting k) = record { kind = 2; number = 0; empty = k; offset = 0 }
 receivedOf receiver.accepted = record { kind = 3; number = 0; empty = 0; offset = 0 }
 receivedOf (receiver.messageRefused n offset) = record { kind = 4; number = n; empty = 0; offset = offset }
+receivedOf (receiver.dropped cut) = record { kind = 5; number = 21; empty = 0; offset = cut }
 
 pub record ReceiveAfter : Type 0 where
   pub answer : Received

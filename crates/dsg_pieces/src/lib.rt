@@ -15,6 +15,7 @@ use table::Table;
 
 // What a body is answered. Kind 0: refused, `number` says why. 1: a repeat. 2: waiting for `empty` slots.
 // 3, 4: complete; the message is `length` bytes from `start` of the body (3) or of the join buffer (4).
+// 5: dropped, by `number` (21) at byte `offset`.
 #[repr(C)]
 pub struct Collected {
     pub kind: u32,
@@ -22,10 +23,12 @@ pub struct Collected {
     pub empty: usize,
     pub start: usize,
     pub length: usize,
+    pub offset: usize,
 }
 
 // What a body that goes all the way is answered. Kind 0: refused, `number` says why. 1: a repeat. 2: waiting
 // for `empty` slots. 3: the table is the message's. 4: the message is refused, by `number` at byte `offset`.
+// 5: the collection is dropped, by `number` (21) at byte `offset`.
 #[repr(C)]
 pub struct Received {
     pub kind: u32,
@@ -58,6 +61,7 @@ fn collected_from(answer: Answer, number: u8) -> Collected
             empty: 0,
             start: 0,
             length: 0,
+            offset: 0,
         },
         Answer::Repeat => Collected {
             kind: 1,
@@ -65,6 +69,7 @@ fn collected_from(answer: Answer, number: u8) -> Collected
             empty: 0,
             start: 0,
             length: 0,
+            offset: 0,
         },
         Answer::Waiting(k) => Collected {
             kind: 2,
@@ -72,8 +77,17 @@ fn collected_from(answer: Answer, number: u8) -> Collected
             empty: k as usize,
             start: 0,
             length: 0,
+            offset: 0,
         },
         Answer::Complete(_) => complete_from(messages::find_message(answer, number)),
+        Answer::Dropped(cut) => Collected {
+            kind: 5,
+            number: 21,
+            empty: 0,
+            start: 0,
+            length: 0,
+            offset: cut,
+        },
     }
 }
 
@@ -88,6 +102,7 @@ fn complete_from(place: Place) -> Collected
             empty: 0,
             start: place.start,
             length: place.length,
+            offset: 0,
         }
     } else {
         Collected {
@@ -96,6 +111,7 @@ fn complete_from(place: Place) -> Collected
             empty: 0,
             start: place.start,
             length: place.length,
+            offset: 0,
         }
     }
 }
@@ -153,6 +169,12 @@ fn received_from(report: Report) -> Received
             number: n as u32,
             empty: 0,
             offset,
+        },
+        Report::Dropped(cut) => Received {
+            kind: 5,
+            number: 21,
+            empty: 0,
+            offset: cut,
         },
     }
 }

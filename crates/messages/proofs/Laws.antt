@@ -18,7 +18,7 @@ use borrow.Author.Tests.{eq-eqb, ne-eqb}
 use lib.ListN.{length, take, drop, drop-of-length-le}
 use lib.Dec.{eqb}
 use Rattle.wire.proofs.Laws.{rest-all}
-use Rattle.collector.specs.Answers.{Said, refused, again, waiting, complete, Place, inBody, inJoin, placeOf, ownOf, joinedOf, lentOf}
+use Rattle.collector.specs.Answers.{Said, refused, again, waiting, complete, dropped, Place, inBody, inJoin, placeOf, ownOf, joinedOf, lentOf}
 use Rattle.wire.specs.Parts.{Part, part}
 use Rattle.messages.specs.Place.{placed, frontOf, behindOf, ownPart, joinedPart}
 use Rattle.messages.specs.declared.Place as code
@@ -90,6 +90,7 @@ joinedOf-front (complete n) number join = go (eqb number 1) refl where
   go : (t : Bool) → eqb number 1 ≡ t → take (length (joinedOf (complete n) number join)) join ≡ joinedOf (complete n) number join
   go true e = rw e refl
   go false e = rw e (take-front n join)
+joinedOf-front (dropped cut) number join = refl
 
 pub joinedPart-at : (a : Said) (number : ℕ) (x : Part) → joinedPart a number x .at ≡ x .at
 unfolding joinedPart
@@ -102,6 +103,7 @@ joinedPart-at (complete n) number x = go (eqb number 1) refl where
   go false e =
       let m : min 0 (length (x .bytes)) + x .at .1 ≡ x .at .1 = omega arith in
       rw (e, m) refl
+joinedPart-at (dropped cut) number x = refl
 
 pub placed-only : (p q : code.Place) → placed p ≡ placed q → p ≡ q
 placed-only p q e = ap (λ (x : Place). record { source = x .source; start = x .start; length = x .length }) e

@@ -65,7 +65,7 @@ pub fn find_message(answer: Answer, number: u8) -> Place
                 length: n,
             }
         }
-        Answer::Refused(_) | Answer::Repeat | Answer::Waiting(_) => Place {
+        Answer::Refused(_) | Answer::Repeat | Answer::Waiting(_) | Answer::Dropped(_) => Place {
             source: IN_NEITHER,
             start: 0,
             length: 0,

@@ -21,7 +21,7 @@ use Rattle.reader.specs.Read.{readTable}
 use Rattle.reader.specs.declared.Verdict.{Verdict}
 use Rattle.reader.specs.declared.Verdict.the-variants as verdict
 use Rattle.receiver.specs.declared.Report.{Report}
-use Rattle.receiver.specs.declared.Report.the-variants.{BodyRefused, Repeat, Waiting, Accepted, MessageRefused}
+use Rattle.receiver.specs.declared.Report.the-variants.{BodyRefused, Repeat, Waiting, Accepted, MessageRefused, Dropped}
 
 pub data Told : Type 0 where
   bodyRefused : ℕ → Told
@@ -29,6 +29,7 @@ pub data Told : Type 0 where
   waiting : ℕ → Told
   accepted : Told
   messageRefused : ℕ → ℕ → Told
+  dropped : ℕ → Told
 
 abbrev pub told : Report → Told
 told (BodyRefused n) = bodyRefused n
@@ -36,6 +37,7 @@ told Repeat = again
 told (Waiting k) = waiting k
 told Accepted = accepted
 told (MessageRefused n offset) = messageRefused n offset
+told (Dropped cut) = dropped cut
 
 -- the verdict on a complete message
 abbrev pub reported : Verdict → Told
@@ -52,6 +54,7 @@ taken (collected.refused n) t message = record { report = bodyRefused n; table =
 taken collected.again t message = record { report = again; table = t }
 taken (collected.waiting k) t message = record { report = waiting k; table = t }
 taken (collected.complete n) t message = record { report = reported (readTable t message .verdict); table = readTable t message .table }
+taken (collected.dropped cut) t message = record { report = dropped cut; table = t }
 
 -- what the caller has after a call
 pub record Had : Type 0 where

@@ -26,6 +26,9 @@ pub enum Report {
     Accepted,
     // The message is complete and refused, with this number at this byte of it; the table is as it was.
     MessageRefused(u8, usize),
+    // The message is complete, and was cut inside an element, first at this byte: refusal 21. Nothing is collected, and the table is
+    // as it was.
+    Dropped(usize),
 }
 
 // The report, and the record and the table after the call.
@@ -95,6 +98,11 @@ fn take_up(outcome: Outcome, table: Table, body: &[u8], join: &[u8]) -> Received
             table,
         },
         Answer::Complete(_) => finish(held, read_message(outcome, table, body, join)),
+        Answer::Dropped(cut) => Received {
+            report: Report::Dropped(cut),
+            held,
+            table,
+        },
     }
 }
 

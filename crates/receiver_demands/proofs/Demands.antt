@@ -5,6 +5,7 @@
 -- Trusts: nothing.
 use Prim.Native.Nat.{ℕ, _≤_, _<_}
 use mathlib.Core.Path.{_≡_, sym, ap, subst, _∙_}
+use mathlib.Core.Bool.{true}
 use mathlib.Core.List.{List, _∷_}
 use mathlib.Core.Logic.{⊎-elim}
 use native.Mathlib.Omega.{arith}
@@ -12,7 +13,8 @@ use lib.ListN.{length}
 use Rattle.table.specs.declared.Table.{Table}
 use Rattle.collector.specs.Answers.{complete, lentOf}
 use Rattle.collector_demands.specs.Runs.{Reply, reply}
-use Rattle.collector_demands.specs.Demand.{Lent, called, told, replyTo, isComplete, completions, Cutting, bodyOf, Arrived, none, other, piece, Came, Apart, Demand3}
+use Rattle.collector_demands.specs.Demand.{Lent, called, told, replyTo, isComplete, completions, Cutting, bodyOf, Arrived, none, other, piece, Came, Passes, Apart, Demand3}
+use Rattle.collection.specs.Record.{isStrict}
 use Rattle.collector_demands.proofs.Demands.{demand-3}
 use Rattle.collector_demands.proofs.Last.{came-or-not}
 use Rattle.reader.specs.Read.{readTable}
@@ -55,9 +57,9 @@ module _ (s : Kept) (count : ℕ) (message : List ℕ) (pieces : List (List ℕ)
       (λ (x : Came k t → ⊥). last-read t k l x (λ j q ne. ⊎-elim (λ (e : k ≡ j). absurd (ne (sym e))) (λ (y : Came j t). y) (all j q)) .1) (came-or-not k t)
 
 pub demand-3-read : (s : Kept) → 24000 ≤ length (s .slots) → 24000 ≤ length (s .join) → (count : ℕ) (message : List ℕ) (pieces : List (List ℕ)) → Cutting message pieces
-    → Apart (s .held) count (length pieces) → ReadOnce s count message pieces
-demand-3-read s room space count message pieces cut apart =
-    let d = demand-3 (lentOfKept s) room space count message pieces cut apart in
+    → (isStrict (s .held) ≡ true → Passes message pieces) → Apart (s .held) count (length pieces) → ReadOnce s count message pieces
+demand-3-read s room space count message pieces cut passes apart =
+    let d = demand-3 (lentOfKept s) room space count message pieces cut passes apart in
     record {
       silent = λ {h} t k l g. (readings-are s h ∙ d .silent t k l g, table-silent s h (d .silent t k l g));
       last = λ {h} t k l g f. last-read s count message pieces d t k l g f;

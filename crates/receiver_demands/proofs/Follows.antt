@@ -11,7 +11,7 @@ use mathlib.Core.Path.{_≡_, refl, sym, ap, _∙_}
 use mathlib.Core.List.{List, [], _∷_}
 use native.Mathlib.Omega.{arith}
 use Rattle.table.specs.declared.Table.{Table}
-use Rattle.collector.specs.Answers.{Said, refused, again, waiting, complete, lentOf}
+use Rattle.collector.specs.Answers.{Said, refused, again, waiting, complete, dropped, lentOf}
 use Rattle.collector.specs.Step.{After, collectStep}
 use Rattle.collector_demands.specs.Demand.{Lent, called, lentAfter, replyTo, isComplete, completions}
 use Rattle.reader.specs.declared.Verdict.{Verdict}
@@ -39,6 +39,7 @@ read-taken (refused n) t message = refl
 read-taken again t message = refl
 read-taken (waiting k) t message = refl
 read-taken (complete n) t message = is-read (readTable t message .verdict)
+read-taken (dropped cut) t message = refl
 
 kept-taken : (a : Said) (t : Table) (message : List ℕ) → isComplete a ≡ 0 → taken a t message .table ≡ t
 unfolding taken
@@ -46,6 +47,7 @@ kept-taken (refused n) t message e = refl
 kept-taken again t message e = refl
 kept-taken (waiting k) t message e = refl
 kept-taken (complete n) t message e = absurd (omega arith)
+kept-taken (dropped cut) t message e = refl
 
 pub read-complete : (s : Kept) (b : List ℕ) → isRead (stepped s b .report) ≡ isComplete (called (lentOfKept s) b .answer)
 unfolding receiveStep

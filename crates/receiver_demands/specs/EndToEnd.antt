@@ -18,7 +18,7 @@ use Rattle.table.specs.declared.Table.{Table}
 use Rattle.collection.specs.declared.Collection.{Collection}
 use Rattle.collector_demands.specs.Demand.{bodyOf, Arrived, Came}
 use Rattle.reader.specs.Read.{readTable}
-use Rattle.receiver.specs.Receive.{Told, bodyRefused, again, waiting, accepted, messageRefused, reported, Had, receiveStep}
+use Rattle.receiver.specs.Receive.{Told, bodyRefused, again, waiting, accepted, messageRefused, dropped, reported, Had, receiveStep}
 
 pub record Kept : Type 0 where
   pub held : Collection
@@ -42,6 +42,7 @@ isRead again = 0
 isRead (waiting k) = 0
 isRead accepted = 1
 isRead (messageRefused n offset) = 1
+isRead (dropped cut) = 0
 
 unfoldable pub readings : Kept → List (List ℕ) → ℕ
 readings s [] = 0

@@ -31,10 +31,17 @@ returns-5 : tie.Need-returns-5
 unfolding reportText
 returns-5 c = simp (c .before .before .before .before .before .report3 .given .1) (c .before .before .list-refusal2 .ensures)
 
+-- a dropped collection
+returns-6 : tie.Need-returns-6
+unfolding reportText
+returns-6 c = simp (c .before .before .before .before .before .report4 .given .1) (c .before .before .list-refusal3 .ensures)
+
 pub list-report-spec : {M : Type 1} → statement M
 list-report-spec =
     tie.close
     (tie.spec
+    (λ c. search needs)
+    (λ c κs. search needs)
     (λ c. search needs)
     (λ c κs. search needs)
     (λ c. search needs)
@@ -54,4 +61,6 @@ list-report-spec =
     (λ c. search needs)
     returns-4
     (λ c. search needs)
-    returns-5)
+    returns-5
+    (λ c. search needs)
+    returns-6)

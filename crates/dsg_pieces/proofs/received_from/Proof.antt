@@ -4,7 +4,7 @@ use borrow.Author.Needs.{needs}
 use Rattle.dsg_pieces.proofs.received_from.Statement.{statement}
 use Rattle.dsg_pieces.proofs.received_from.Tie as tie
 
--- BodyRefused, Repeat, Waiting, Accepted, MessageRefused
+-- BodyRefused, Repeat, Waiting, Accepted, MessageRefused, Dropped
 returns : tie.Need-returns
 returns c = rw (c .before .report .given .1)
 
@@ -20,6 +20,9 @@ returns-4 c = rw (c .enum-told2 .given .1)
 returns-5 : tie.Need-returns-5
 returns-5 c = rw (c .before .report3 .given .1)
 
+returns-6 : tie.Need-returns-6
+returns-6 c = rw (c .before .report4 .given .1)
+
 pub received-from-spec : {M : Type 1} → statement M
 received-from-spec = tie.close (tie.spec (λ c. search needs) (λ c. search needs) (λ c. search needs) (λ c. search needs) (λ c. search needs) (λ c. search needs) (λ c. search needs)
-    (λ c. search needs) returns returns-2 returns-3 returns-4 returns-5)
+    (λ c. search needs) (λ c. search needs) returns returns-2 returns-3 returns-4 returns-5 returns-6)

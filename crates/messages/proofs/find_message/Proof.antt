@@ -11,18 +11,20 @@ use borrow.Author.Needs.{needs}
 use borrow.Author.Tests.{eq-eqb, ne-eqb}
 use Rattle.collector.specs.Answers.{said, inNeither, place, placeOf}
 use Rattle.collector.specs.declared.Answer.{Answer}
-use Rattle.collector.specs.declared.Answer.the-variants.{Refused, Repeat, Waiting, Complete}
+use Rattle.collector.specs.declared.Answer.the-variants.{Refused, Repeat, Waiting, Complete, Dropped}
 use Rattle.collector.proofs.Answer.{the-type}
 use Rattle.messages.proofs.find_message.Statement.{statement}
 use Rattle.messages.proofs.find_message.Tie as tie
 
--- a variant before Complete has no message
-nowhere : (a : Answer) (number : ℕ) → OneOf (0 ∷ 1 ∷ 2 ∷ []) (tagOf the-type a) → place inNeither 0 0 ≡ placeOf (said a) number
+-- a variant but Complete has no message
+nowhere : (a : Answer) (number : ℕ) → OneOf (0 ∷ 1 ∷ 2 ∷ 4 ∷ []) (tagOf the-type a) → place inNeither 0 0 ≡ placeOf (said a) number
 nowhere (Refused n) number h = refl
 nowhere Repeat number h = refl
 nowhere (Waiting k) number h = refl
 nowhere (Complete n) number h =
-    absurd (⊎-elim (λ (e : _≡_ {A = ℕ} 3 0). omega arith) (λ g. ⊎-elim (λ (e : _≡_ {A = ℕ} 3 1). omega arith) (λ (e : _≡_ {A = ℕ} 3 2). omega arith) g) h)
+    absurd (⊎-elim (λ (e : _≡_ {A = ℕ} 3 0). omega arith)
+    (λ g. ⊎-elim (λ (e : _≡_ {A = ℕ} 3 1). omega arith) (λ k. ⊎-elim (λ (e : _≡_ {A = ℕ} 3 2). omega arith) (λ (e : _≡_ {A = ℕ} 3 4). omega arith) k) g) h)
+nowhere (Dropped cut) number h = refl
 
 -- in the body
 returns : tie.Need-returns

@@ -29,6 +29,11 @@ returns-4 c =
     let f = c .finish .ensures in
     (rw (f .2) (taken-complete _ _ _ _ (ap said (c .before .before .enum-told2 .given .1)) (f .0) (c .before .read-message .ensures)), f .1)
 
+-- dropped
+returns-5 : tie.Need-returns-5
+unfolding taken
+returns-5 c = (simp (c .before .answer3 .given .1), refl)
+
 pub take-up-spec : {M : Type 1} → statement M
 take-up-spec =
     tie.close
@@ -39,7 +44,9 @@ take-up-spec =
     (λ c. search needs)
     (λ c κs. search needs)
     (λ c κs. search needs)
+    (λ c. search needs)
     returns
     returns-2
     returns-3
-    returns-4)
+    returns-4
+    returns-5)
