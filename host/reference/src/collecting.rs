@@ -1,9 +1,15 @@
-//! Collects the pieces of a message (document 01, "Collecting pieces" and refusals 1 to 5).
+//! Collects the pieces of a message (document 01, "Collecting pieces" and refusals 1 to 5; document
+//! 02, Req 04, refusal 21).
 //!
-//! The caller lends a record and two buffers. A refused body changes nothing. An accepted one
-//! changes the record and its own slot, unless it is a repeat; the join buffer changes only when a
-//! message of two or more pieces completes, and only where the joined bytes stand.
+//! The caller lends a record and two buffers. A body that is refused 1 to 5 changes nothing. An
+//! accepted one changes the record and its own slot, unless it is a repeat; the join buffer changes
+//! only when a message of two or more pieces completes, and only where the joined bytes stand.
+//!
+//! Where the record is strict, the cuts are judged then, after the join. At a bad one the body is
+//! refused 21: the buffers keep what completing has written, and the record is emptied. No body
+//! changes the setting.
 
+use crate::cuts::first_bad_cut;
 use crate::Refusal;
 
 pub const SLOTS: usize = 16;
@@ -23,6 +29,8 @@ pub struct Record {
     pub number: u8,
     pub filled: [bool; SLOTS],
     pub lengths: [u16; SLOTS],
+    /// Whether cuts are judged. No fault of a record concerns it.
+    pub strict: bool,
 }
 
 /// Why no calls could have made a record; such a record counts as nothing collected.
@@ -46,6 +54,14 @@ impl Fault {
 }
 
 impl Record {
+    /// Nothing collected, in that setting.
+    pub fn empty(strict: bool) -> Record {
+        Record {
+            strict,
+            ..Record::default()
+        }
+    }
+
     pub fn has(&self, fault: Fault) -> bool {
         let number = usize::from(self.number);
         let mut slots = (0..SLOTS).map(|slot| (slot, self.filled[slot], self.lengths[slot]));
@@ -62,11 +78,12 @@ impl Record {
         self.number > 0 && !Fault::ALL.iter().any(|&fault| self.has(fault))
     }
 
-    fn begun_by(piece: &Piece) -> Record {
+    /// A run that the piece starts, before it is stored.
+    fn begun_by(piece: &Piece, strict: bool) -> Record {
         Record {
             count: piece.count,
             number: piece.number,
-            ..Record::default()
+            ..Record::empty(strict)
         }
     }
 
@@ -74,6 +91,18 @@ impl Record {
     fn empty_slots(&self) -> usize {
         let counted = self.filled.iter().take(self.number.into());
         counted.filter(|&&filled| !filled).count()
+    }
+
+    /// The ends of all pieces but the last, as offsets in the joined message.
+    fn cuts(&self) -> Vec<usize> {
+        let but_last = usize::from(self.number).saturating_sub(1);
+        let mut end = 0;
+        let mut cuts = Vec::new();
+        for &length in self.lengths.iter().take(but_last) {
+            end += usize::from(length);
+            cuts.push(end);
+        }
+        cuts
     }
 }
 
@@ -134,16 +163,16 @@ pub fn take_piece<'b, 'j>(
     }
     let piece = Piece::of(body)?;
     if !continues(record, slots, &piece) {
-        *record = Record::begun_by(&piece);
+        *record = Record::begun_by(&piece, record.strict);
     } else if record.filled[piece.slot] {
         return Ok(Taken::Repeat);
     }
     store(record, slots, &piece);
-    Ok(match record.empty_slots() {
-        0 if record.number == 1 => Taken::CompleteBody(piece.bytes),
-        0 => Taken::CompleteJoin(join_slots(record, slots, join)),
-        empty => Taken::Waiting(empty),
-    })
+    match record.empty_slots() {
+        0 if record.number == 1 => Ok(Taken::CompleteBody(piece.bytes)),
+        0 => complete(record, slots, join).map(Taken::CompleteJoin),
+        empty => Ok(Taken::Waiting(empty)),
+    }
 }
 
 /// Whether the piece belongs to the run that the record holds.
@@ -164,6 +193,25 @@ fn store(record: &mut Record, slots: &mut [u8], piece: &Piece) {
     slots[start..start + piece.bytes.len()].copy_from_slice(piece.bytes);
     record.filled[piece.slot] = true;
     record.lengths[piece.slot] = piece.bytes.len() as u16;
+}
+
+/// Joins the pieces and, in the strict setting, judges the cuts; a bad one empties the record.
+fn complete<'j>(
+    record: &mut Record,
+    slots: &[u8],
+    join: &'j mut [u8],
+) -> Result<&'j [u8], Refusal> {
+    let message = join_slots(record, slots, join);
+    if !record.strict {
+        return Ok(message);
+    }
+    match first_bad_cut(message, &record.cuts()) {
+        Some(cut) => {
+            *record = Record::empty(record.strict);
+            Err(Refusal::at(21, cut))
+        }
+        None => Ok(message),
+    }
 }
 
 /// Writes the pieces one after another to the start of the join buffer.

@@ -168,7 +168,11 @@ fn read_row(message: &[u8], span: Range<usize>, row: Row) -> Result<Vec<Element<
 }
 
 /// Tests 6 to 8: where the value of the element at `at` lies.
-fn value_span(message: &[u8], at: usize, row_end: usize) -> Result<Range<usize>, Refusal> {
+pub(crate) fn value_span(
+    message: &[u8],
+    at: usize,
+    row_end: usize,
+) -> Result<Range<usize>, Refusal> {
     let start = at + 2;
     if start > row_end {
         return Err(Refusal::at(6, at));

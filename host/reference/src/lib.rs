@@ -3,7 +3,8 @@
 //! It shares no code, no table and no test data with the proved library, and exists to be compared
 //! with it. It is written to be read beside the documents; speed comes second.
 //!
-//!   collecting   pieces into a message        document 01, "Collecting pieces"
+//!   collecting   pieces into a message        document 01, "Collecting pieces"; Req 04
+//!   cuts         where pieces may end         Req 04
 //!   elements     a message into elements      "Elements", refusals 6 to 14
 //!   table        elements into a table        "Elements", refusals 3 and 15
 //!   receiving    a body all the way to a table   both of the sections above
@@ -18,6 +19,7 @@
 
 pub mod choosing;
 pub mod collecting;
+pub mod cuts;
 pub mod elements;
 pub mod listing;
 pub mod modem;
@@ -25,11 +27,11 @@ pub mod protocol;
 pub mod receiving;
 pub mod table;
 
-/// A refusal of document 01, "Refusal numbers".
+/// A refusal of document 01, "Refusal numbers", or of a request of document 02.
 #[derive(Clone, Copy, Debug, PartialEq, Eq)]
 pub struct Refusal {
     pub number: u8,
-    /// Offset in the message of the type byte concerned; 0 outside refusals 6 to 15.
+    /// Offset in the message: for 6 to 15 of the type byte concerned, for 21 of the cut; else 0.
     pub offset: usize,
 }
 

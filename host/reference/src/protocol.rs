@@ -20,7 +20,7 @@
 //!   length for HEX and FRAME, of just 6 bytes for TUNNEL and a MAC, of 4 for SRC, MASK and DST.
 //! - List: items separated by one comma, or `-` for none. LENS has sixteen items, FLAGS sixteen
 //!   characters `0` or `1`.
-//! - PERM and P are `0` or `1`. `adv` and `j128` are the only words in their places.
+//! - PERM, P and STRICT are `0` or `1`. `adv` and `j128` are the only words in their places.
 //!
 //! # Tables in text
 //! - Parts are separated by the word `;`, none of them empty. The head comes first, then rules, then
@@ -33,16 +33,19 @@
 //!
 //! # State
 //! - A bad request changes nothing.
-//! - Before the first request: the collection is as after `new 24000 24000 0`; the lent table is that
-//!   of the empty message (no rules, classifiers and channels, timers 2 600 300 1800); the modem
+//! - Before the first request: the collection is as after `new 24000 24000 0 0`; the lent table is
+//!   that of the empty message (no rules, classifiers and channels, timers 2 600 300 1800); the modem
 //!   record is `idle 0 0 - 2 600 300 1800 - - adv`.
-//! - `new` makes the record count 0, number 0, all flags 0 and all lengths 0. `rec` leaves the
-//!   buffers, `new` leaves the lent table and the modem record. A refused `tread` leaves the lent
-//!   table; `read` and `list` leave everything.
+//! - `new` makes the record count 0, number 0, all flags 0 and all lengths 0, strict where STRICT is
+//!   1 and loose where it is 0. No other request changes that setting, and no answer shows it: `rec`
+//!   sets the rest of the record. `rec` leaves the buffers, `new` leaves the lent table and the modem
+//!   record. A refused `tread` leaves the lent table; `read` and `list` leave everything.
 //! - `piece` and `recv` share the record and the buffers, and may take turns: a piece that one of
 //!   them stored is a repeat for the other. `recv` lends a new table only where it answers `accepted`.
 //!   At `message refused` the body was accepted: the record and the buffers are what `piece` would
 //!   have made of them, and only the lent table stays as it was.
+//! - At `refused 21 OFF` of `piece` or `recv` the record is that of `new`, with the setting that it
+//!   had; the buffers are what the same request loose would have made of them; the lent table stays.
 
 pub mod crc;
 pub mod records;
@@ -104,8 +107,13 @@ impl Session {
     /// The answer to a request.
     pub fn answer(&mut self, request: Request) -> String {
         match request {
-            Request::New { slot, join, fill } => self.renew(slot, join, fill),
-            Request::Rec(record) => set(&mut self.record, record),
+            Request::New {
+                slot,
+                join,
+                fill,
+                strict,
+            } => self.renew(slot, join, fill, strict),
+            Request::Rec(record) => self.overwrite(record),
             Request::Piece(body) => self.take(&body),
             Request::Recv(body) => self.receive(&body),
             Request::Read(message) => written(read_table(&message), |table| write_table(&table)),
@@ -124,10 +132,16 @@ impl Session {
         }
     }
 
-    fn renew(&mut self, slot: usize, join: usize, fill: u8) -> String {
+    fn renew(&mut self, slot: usize, join: usize, fill: u8, strict: bool) -> String {
         self.slots = vec![fill; slot];
         self.join = vec![fill; join];
-        set(&mut self.record, collecting::Record::default())
+        set(&mut self.record, collecting::Record::empty(strict))
+    }
+
+    /// Sets the record but for its setting.
+    fn overwrite(&mut self, record: collecting::Record) -> String {
+        let strict = self.record.strict;
+        set(&mut self.record, collecting::Record { strict, ..record })
     }
 
     fn take(&mut self, body: &[u8]) -> String {

@@ -3,8 +3,9 @@
 //!
 //! The record and the buffers become what `collecting` makes of the body, also when the message that
 //! it completes is refused: that body was accepted, and its next copy is a repeat. A message that is
-//! never reported complete is never read. Refusal 3 of a message cannot occur here, since sixteen
-//! pieces of 1,497 bytes are just the 23,952 that a message may have.
+//! never reported complete is never read; refusal 21, which is the body's own, drops one unread.
+//! Refusal 3 of a message cannot occur here, since sixteen pieces of 1,497 bytes are just the 23,952
+//! that a message may have.
 
 use crate::collecting::{take_piece, Record, Taken};
 use crate::table::{read_table, Table};

@@ -12,6 +12,9 @@ const M_TABLE: &str = "table j128 2 600 300 1800 - \
     ; rule 5 80 01005e050505 - 4:42 - - 0 ; rule 6 9 01005e060606 - 4:42 - - 1 \
     ; channel 603000000";
 
+/// A collection record in text that holds nothing.
+const NOTHING: &str = "0 0 0000000000000000 0,0,0,0,0,0,0,0,0,0,0,0,0,0,0,0";
+
 /// The answers of one session.
 fn answers(lines: &[&str]) -> Vec<String> {
     let mut session = Session::default();
@@ -25,9 +28,14 @@ fn answer(line: &str) -> String {
     answers(&[line]).concat()
 }
 
+/// An answer without the record and the sums behind it.
+fn answer_part(answer: &str) -> &str {
+    answer.split(" | ").next().unwrap_or_default()
+}
+
 #[test]
 fn gives_no_answer_to_blank_lines_and_remarks() {
-    assert!(answers(&["", " ", "   ", "#", "# new 0 0 0", "#new"]).is_empty());
+    assert!(answers(&["", " ", "   ", "#", "# new 0 0 0 0", "#new"]).is_empty());
 }
 
 #[test]
@@ -47,7 +55,7 @@ fn answers_examples_in_text() {
 #[test]
 fn answers_pieces_with_the_record_and_both_sums() {
     let lines = [
-        "new 24000 24000 0",
+        "new 24000 24000 0 0",
         "piece 070202a0",
         "piece 07020132",
         "piece 07020132",
@@ -138,7 +146,6 @@ fn keeps_the_lent_table_after_a_refused_message_of_one_piece() {
 
 #[test]
 fn takes_turns_of_piece_and_recv_on_one_collection() {
-    let starts = |answer: &str| answer.split(" | ").next().unwrap_or_default().to_string();
     let lines = [
         "piece 07020133",
         "recv j128 07020133",
@@ -148,7 +155,8 @@ fn takes_turns_of_piece_and_recv_on_one_collection() {
         "piece 08020200",
         "recv j128 08020200",
     ];
-    let answered: Vec<String> = answers(&lines).iter().map(|line| starts(line)).collect();
+    let answered = answers(&lines);
+    let answered: Vec<&str> = answered.iter().map(|line| answer_part(line)).collect();
     let expected = [
         "waiting 1",
         "repeat",
@@ -162,9 +170,189 @@ fn takes_turns_of_piece_and_recv_on_one_collection() {
 }
 
 #[test]
+fn refuses_21_a_piece_of_a_strict_collection() {
+    let lines = [
+        "new 24000 24000 238 1",
+        "piece 0702016301",
+        "piece 07020200",
+        "piece 07020200",
+        "piece 0702016301",
+        "piece 080201630100",
+        "piece 080202",
+        "piece 080202",
+    ];
+    let expected = [
+        "ok",
+        "waiting 1 | 7 2 1000000000000000 2,0,0,0,0,0,0,0,0,0,0,0,0,0,0,0 | 3211734703 1718746098",
+        &format!("refused 21 2 | {NOTHING} | 2454526340 3906514589"),
+        "waiting 1 | 7 2 0100000000000000 0,1,0,0,0,0,0,0,0,0,0,0,0,0,0,0 | 2454526340 3906514589",
+        &format!("refused 21 2 | {NOTHING} | 2454526340 3906514589"),
+        "waiting 1 | 8 2 1000000000000000 3,0,0,0,0,0,0,0,0,0,0,0,0,0,0,0 | 3321534902 3906514589",
+        "complete join 630100 | 8 2 1100000000000000 3,0,0,0,0,0,0,0,0,0,0,0,0,0,0,0 | 3321534902 3906514589",
+        "repeat | 8 2 1100000000000000 3,0,0,0,0,0,0,0,0,0,0,0,0,0,0,0 | 3321534902 3906514589",
+    ];
+    assert_eq!(answers(&lines), expected);
+}
+
+#[test]
+fn refuses_21_with_the_sums_that_the_same_line_has_loose() {
+    for request in ["piece", "recv j128"] {
+        let (first, second) = M_HEX.split_at(20);
+        let first = format!("{request} 070201{first}");
+        let second = format!("{request} 070202{second}");
+        for [early, late] in [[&first, &second], [&second, &first]] {
+            let loose = answers(&["new 24000 24000 9 0", early, late]);
+            let strict = answers(&["new 24000 24000 9 1", early, late]);
+            assert_eq!(strict[..2], loose[..2]);
+            let (_, sums) = loose[2].rsplit_once(" | ").expect("sums");
+            assert_eq!(strict[2], format!("refused 21 10 | {NOTHING} | {sums}"));
+        }
+    }
+}
+
+#[test]
+fn keeps_the_lent_table_after_21() {
+    let (first, second) = M_HEX.split_at(20);
+    let (rule, rest) = M_HEX.split_at(44);
+    let lines = [
+        "new 24000 24000 0 1",
+        "tset table j128 1 2 3 4 - ; rule 9 9 000000000009 - 4:42 - - 0",
+        &format!("recv j128 070201{first}"),
+        &format!("recv j128 070202{second}"),
+        "choose 4:42 -",
+        &format!("recv j128 070202{rest}"),
+        "choose 4:42 -",
+        &format!("recv j128 070201{rule}"),
+        "choose 4:42 -",
+        "recv j128 08020133",
+        "recv j128 08020200",
+        "choose 4:42 -",
+    ];
+    let answered = answers(&lines);
+    let answered: Vec<&str> = answered.iter().map(|line| answer_part(line)).collect();
+    let accepted = format!("accepted {M_TABLE}");
+    let expected = [
+        "ok",
+        "ok",
+        "waiting 1",
+        "refused 21 10",
+        "rule 9 0 000000000009",
+        "waiting 1",
+        "rule 9 0 000000000009",
+        &accepted,
+        "rule 5 0 01005e050505",
+        "waiting 1",
+        "refused 21 1",
+        "rule 5 0 01005e050505",
+    ];
+    assert_eq!(answered, expected);
+}
+
+#[test]
+fn refuses_21_before_06_and_leaves_cuts_behind_06_to_08() {
+    let answered = |first: &str, second: &str| {
+        let lines = [
+            "new 24000 24000 0 1",
+            &format!("recv j128 070202{second}"),
+            &format!("recv j128 070201{first}"),
+        ];
+        answer_part(&answers(&lines)[2]).to_string()
+    };
+    assert_eq!(answered("63", "010032"), "refused 21 1");
+    assert_eq!(answered("630100", "32"), "message refused 6 3");
+    assert_eq!(answered("63010032", ""), "message refused 6 3");
+    assert_eq!(answered("63010032", "ff"), "message refused 7 3");
+    assert_eq!(answered("6301", "0032ff"), "refused 21 2");
+    assert_eq!(answered("63010032", "01"), "message refused 8 3");
+    assert_eq!(answered("630100", "3201"), "message refused 8 3");
+}
+
+#[test]
+fn keeps_the_setting_through_rec_new_runs_and_bad_requests() {
+    let one_held = "rec 7 2 1000000000000000 1,0,0,0,0,0,0,0,0,0,0,0,0,0,0,0";
+    let all_held = "rec 7 2 1100000000000000 1,1,0,0,0,0,0,0,0,0,0,0,0,0,0,0";
+    let broken = "rec 7 17 1000000000000000 1,0,0,0,0,0,0,0,0,0,0,0,0,0,0,0";
+    let lines = [
+        one_held,
+        "piece 07020200",
+        all_held,
+        "piece 07020200",
+        "recv j128 07020100",
+        broken,
+        "piece 07020200",
+        "piece 07020100",
+        "piece 08020100",
+        "piece 09020100",
+        "new 24000 24000 0",
+        "piece 09020200",
+        "piece 070101630100",
+    ];
+    let answered = |strict: &str| {
+        let start = format!("new 24000 24000 0 {strict}");
+        let answered = answers(&[&[start.as_str()], lines.as_slice()].concat());
+        let parts = answered.iter().map(|line| answer_part(line).to_string());
+        parts.collect::<Vec<String>>()
+    };
+    let expected = |at_completion| {
+        [
+            "ok",
+            "ok",
+            at_completion,
+            "ok",
+            "repeat",
+            "repeat",
+            "ok",
+            "waiting 1",
+            at_completion,
+            "waiting 1",
+            "waiting 1",
+            BAD_REQUEST,
+            at_completion,
+            "complete body 630100",
+        ]
+    };
+    assert_eq!(answered("1"), expected("refused 21 1"));
+    assert_eq!(answered("0"), expected("complete join 0000"));
+}
+
+#[test]
+fn new_changes_the_setting_either_way() {
+    let lines = [
+        "new 24000 24000 0 1",
+        "new 24000 24000 0 0",
+        "piece 07020133",
+        "piece 07020200",
+        "new 24000 24000 0 1",
+        "piece 07020133",
+        "piece 07020200",
+    ];
+    let answered = answers(&lines);
+    assert_eq!(answer_part(&answered[3]), "complete join 3300");
+    assert_eq!(answer_part(&answered[6]), "refused 21 1");
+}
+
+#[test]
+fn repeats_a_strict_record_that_is_given_as_complete() {
+    let record = "7 2 1100000000000000 1,1,0,0,0,0,0,0,0,0,0,0,0,0,0,0";
+    let lines = [
+        "new 24000 24000 0 1",
+        &format!("rec {record}"),
+        "piece 07020200",
+    ];
+    let last = format!("repeat | {record} | 4152666804 4152666804");
+    assert_eq!(answers(&lines), ["ok", "ok", &last]);
+}
+
+#[test]
+fn lists_the_same_beside_a_strict_collection() {
+    let lines = ["new 24000 24000 0 1", "list 07020133", "list 0701013200"];
+    assert_eq!(answers(&lines), ["ok", "waiting 1", "refused 13 at 0"]);
+}
+
+#[test]
 fn lends_buffers_and_records_as_given() {
     let lines = [
-        "new 3 24000 255",
+        "new 3 24000 255 0",
         "rec 9 255 1010000000000001 65535,0,1,2,3,4,5,6,7,8,9,10,11,12,13,14",
         "piece 000101",
     ];
@@ -193,7 +381,7 @@ fn keeps_the_lent_table_after_a_refused_tread() {
         &format!("tread j128 {M_HEX}"),
         "tread j128 3200",
         "read j128 -",
-        "new 0 0 0",
+        "new 0 0 0 0",
         "choose 4:42 -",
         "judge 4:42 - 01005e0505050000000000000800",
         "judge 4:42 9 01005e0505050000000000000800ab",
@@ -269,17 +457,29 @@ fn gives_back_a_broken_modem_record() {
 }
 
 /// Lines that parse, each with some that nearly do.
-const NEARLY: [(&str, &[&str]); 13] = [
+const NEARLY: [(&str, &[&str]); 14] = [
     (
-        "new 65536 0 255",
+        "new 65536 0 255 1",
         &[
-            "new 65537 0 0",
-            "new 0 65537 0",
-            "new 0 0 256",
+            "new 65537 0 0 0",
+            "new 0 65537 0 0",
+            "new 0 0 256 0",
             "new 0 0",
-            "new 0 0 0 0",
-            "NEW 0 0 0",
+            "new 0 0 0",
+            "new 0 0 0 ",
+            "new 0 0 0 2",
+            "new 0 0 0 255",
+            "new 0 0 0 00",
+            "new 0 0 0 01",
+            "new 0 0 0 -",
+            "new 0 0 0 strict",
+            "new 0 0 0 0 0",
+            "NEW 0 0 0 0",
         ],
+    ),
+    (
+        "new 0 65536 0 0",
+        &["new 0 65536 0", "new 65536 0", "new 0 65536 0 0 "],
     ),
     (
         "rec 255 0 0000000000000000 0,0,0,0,0,0,0,0,0,0,0,0,0,0,0,65535",
@@ -420,7 +620,7 @@ fn refuses_lines_of_no_kind() {
     for line in [
         "x",
         "quit",
-        "new\t0 0 0",
+        "new\t0 0 0 0",
         "piece 00\r",
         "mev",
         "- -",

@@ -1,12 +1,12 @@
-//! Receiving a body all the way (document 01, "Collecting pieces", then "Elements"): the collector's
-//! answer, or what the message that it completes gives.
+//! Receiving a body all the way (document 01, "Collecting pieces", then "Elements"; document 02, Req
+//! 04): the collector's answer, or what the message that it completes gives.
 
 mod support;
 
 use reference::receiving::Received;
 use reference::table::Table;
 use reference::Refusal;
-use support::{accepted, body, bytes, element, message_m, Collection};
+use support::{accepted, body, bytes, cut_at, element, message_m, Collection};
 
 /// A message that is refused, with its number and offset.
 fn refused_messages() -> [(Vec<u8>, u8, usize); 10] {
@@ -200,4 +200,68 @@ fn receives_m_from_every_cut_and_either_order() {
             assert_eq!(collection.receive(late), Ok(table));
         }
     }
+}
+
+/// What a strict collection receives at the second piece of a message that is cut there.
+fn received_strict(message: &[u8], cut: usize) -> Result<Received, Refusal> {
+    let mut collection = Collection::strict();
+    let bodies = cut_at(message, &[cut]);
+    assert_eq!(collection.receive(&bodies[0]), Ok(Received::Waiting(1)));
+    collection.receive(&bodies[1])
+}
+
+#[test]
+fn accepts_m_from_good_cuts_only_in_the_strict_setting() {
+    for cut in 0..=52 {
+        let received = received_strict(&message_m(), cut);
+        let expected = match cut {
+            0 | 22 | 44 | 52 => Ok(Received::Accepted(accepted(&message_m()))),
+            _ => Err(Refusal::at(21, cut)),
+        };
+        assert_eq!(received, expected);
+    }
+}
+
+#[test]
+fn refuses_21_before_09_to_15_and_gives_those_at_good_cuts() {
+    for (message, number, offset) in &refused_messages()[3..] {
+        let end = message.len();
+        let longer = [message.as_slice(), &bytes("63 01 00")].concat();
+        let refused = Received::MessageRefused(Refusal::at(*number, *offset));
+        assert_eq!(received_strict(&longer, end), Ok(refused));
+        for cut in [1, end - 1, end + 1, end + 2] {
+            let refused = Refusal::at(21, cut);
+            assert_eq!(received_strict(&longer, cut), Err(refused), "{number}");
+        }
+    }
+}
+
+#[test]
+fn refuses_21_before_06_to_08_and_gives_those_at_cuts_that_are_not_judged() {
+    for (message, number, offset) in &refused_messages()[..3] {
+        for cut in *offset..=message.len() {
+            let refused = Received::MessageRefused(Refusal::at(*number, *offset));
+            assert_eq!(received_strict(message, cut), Ok(refused));
+        }
+        let refused = Refusal::at(21, offset - 1);
+        assert_eq!(received_strict(message, offset - 1), Err(refused));
+    }
+}
+
+#[test]
+fn refuses_21_with_what_the_collector_makes_of_the_body_and_goes_on() {
+    let bodies = halves(&message_m());
+    let mut taken = Collection::strict();
+    let mut received = Collection::strict();
+    for _ in 0..2 {
+        taken.take(&bodies[1]).expect("accepted");
+        let waiting = received.receive(&bodies[1]);
+        assert_eq!(waiting, Ok(Received::Waiting(1)));
+        assert_eq!(taken.take(&bodies[0]), Err(Refusal::at(21, 26)));
+        let refused = received.receive(&bodies[0]);
+        assert_eq!(refused, Err(Refusal::at(21, 26)));
+        assert_eq!(received, taken);
+    }
+    let single = received.receive(&body(7, 1, 1, &message_m()));
+    assert_eq!(single, Ok(Received::Accepted(accepted(&message_m()))));
 }

@@ -4,7 +4,7 @@ use super::words::{commas, flag, number, optional, or_dash};
 use crate::collecting;
 use crate::modem::{self, Event, State};
 
-/// `COUNT NUMBER FLAGS LENS`.
+/// `COUNT NUMBER FLAGS LENS`: the record but for its setting.
 pub fn write_collection(record: &collecting::Record) -> String {
     let digit = |&filled: &bool| if filled { '1' } else { '0' };
     format!(
@@ -16,6 +16,7 @@ pub fn write_collection(record: &collecting::Record) -> String {
     )
 }
 
+/// A loose record, since the words say nothing of the setting.
 pub fn parse_collection(words: &[&str]) -> Option<collecting::Record> {
     let [count, num, flags, lengths] = words else {
         return None;
@@ -27,6 +28,7 @@ pub fn parse_collection(words: &[&str]) -> Option<collecting::Record> {
         number: number(num)?,
         filled: filled?.try_into().ok()?,
         lengths: lengths?.try_into().ok()?,
+        strict: false,
     })
 }
 

@@ -4,7 +4,7 @@ use super::records::{
     parse_collection, parse_event, parse_modem, write_collection, write_event, write_modem,
 };
 use super::tables::{parse_client, parse_table, write_client, write_table};
-use super::words::{bytes, hex, number, optional, or_dash};
+use super::words::{bytes, flag, hex, number, optional, or_dash};
 use crate::table::{Client, Table};
 use crate::{collecting, modem};
 use std::fmt::{self, Display, Formatter};
@@ -14,7 +14,13 @@ pub const BUFFER_MAX: usize = 65_536;
 
 #[derive(Clone, Debug, PartialEq, Eq)]
 pub enum Request {
-    New { slot: usize, join: usize, fill: u8 },
+    New {
+        slot: usize,
+        join: usize,
+        fill: u8,
+        strict: bool,
+    },
+    /// The record but for its setting, which the line does not carry.
     Rec(collecting::Record),
     Piece(Vec<u8>),
     Recv(Vec<u8>),
@@ -34,10 +40,11 @@ impl Request {
         let words: Vec<&str> = line.split(' ').collect();
         let (kind, rest) = words.split_first()?;
         match (*kind, rest) {
-            ("new", [slot, join, fill]) => Some(Request::New {
+            ("new", [slot, join, fill, strict]) => Some(Request::New {
                 slot: buffer_size(slot)?,
                 join: buffer_size(join)?,
                 fill: number(fill)?,
+                strict: flag(strict)?,
             }),
             ("rec", rest) => parse_collection(rest).map(Request::Rec),
             ("piece", [body]) => bytes(body).map(Request::Piece),
@@ -91,7 +98,12 @@ impl Display for Request {
     fn fmt(&self, f: &mut Formatter<'_>) -> fmt::Result {
         write!(f, "{} ", self.word())?;
         match self {
-            Request::New { slot, join, fill } => write!(f, "{slot} {join} {fill}"),
+            Request::New {
+                slot,
+                join,
+                fill,
+                strict,
+            } => write!(f, "{slot} {join} {fill} {}", u8::from(*strict)),
             Request::Rec(record) => write!(f, "{}", write_collection(record)),
             Request::Piece(body) | Request::List(body) => write!(f, "{}", hex(body)),
             Request::Recv(bytes) | Request::Read(bytes) | Request::TRead(bytes) => {

@@ -71,6 +71,18 @@ pub fn body(count: u8, number: u8, sequence: u8, piece: &[u8]) -> Vec<u8> {
     [&[count, number, sequence], piece].concat()
 }
 
+/// The bodies, under count 7, of a message that is cut at these offsets.
+pub fn cut_at(message: &[u8], cuts: &[usize]) -> Vec<Vec<u8>> {
+    let number = cuts.len() as u8 + 1;
+    let starts = [&[0], cuts].concat();
+    let ends = [cuts, &[message.len()]].concat();
+    let spans = starts.into_iter().zip(ends);
+    (1..)
+        .zip(spans)
+        .map(|(sequence, (start, end))| body(7, number, sequence, &message[start..end]))
+        .collect()
+}
+
 /// A collection with buffers of the least size.
 #[derive(Clone, Debug, PartialEq, Eq)]
 pub struct Collection {
@@ -85,6 +97,14 @@ impl Collection {
             record: Record::default(),
             slots: vec![0xEE; BUFFER_MIN],
             join: vec![0xDD; BUFFER_MIN],
+        }
+    }
+
+    /// A collection in the strict setting.
+    pub fn strict() -> Collection {
+        Collection {
+            record: Record::empty(true),
+            ..Collection::new()
         }
     }
 
