@@ -2,8 +2,6 @@
 -- messages and listings.
 --
 --   collectStep-refused    a body: 1 to 5; the record and both buffers are as they were
---   collectStep-dropped    a strict collection with a bad cut, 21: the record is empty but for its setting, and both buffers are as the loose setting leaves
---                          them, which completes; the one refusal that changes what was lent (document 02, Req 04)
 --   lentStep-refused       the same with the message lent as a part: no part is lent, and the join buffer comes back whole
 --   headAt-refused         the head of an element: 6 to 8
 --   testedAt-refused       an element with all that stands in it: 6 to 13, at a byte of the message
@@ -15,8 +13,8 @@
 -- `met`. The theorems are about the definitions, which Demand2, Demand2Frames, Parts, PartsPieces and Exported say are what the entries give.
 -- Trusts: nothing.
 use Prim.Native.Nat.{ℕ, _*_, _-_, _≤_, _<_}
-use mathlib.Core.Path.{_≡_, refl, sym, ap, _∙_}
-use mathlib.Core.Bool.{Bool, true, false, cond, not, _||_}
+use mathlib.Core.Path.{_≡_, refl, ap}
+use mathlib.Core.Bool.{Bool, true, false, cond, _||_}
 use mathlib.Core.List.{List, [], _++_}
 use mathlib.Core.Logic.{_⊎_}
 use native.Mathlib.Omega.{arith}
@@ -24,13 +22,13 @@ use borrow.Author.Tests.{eqb-false}
 use lib.ListN.{length, getD, drop}
 use lib.Dec.{eqb, ltb}
 use Rattle.wire.specs.Bytes.{pasted}
-use Rattle.collector.specs.Answers.{refused, again, waiting, complete, dropped, ownOf, joinedOf}
-use Rattle.collection.specs.Record.{emptyCollection, isStrict}
+use Rattle.collector.specs.Answers.{refused, again, waiting, complete, ownOf, joinedOf}
+use Rattle.collection.specs.Record.{isStrict}
 use Rattle.cuts.specs.Cuts.{Ruling, allGood, badAt, cutsIn}
-use Rattle.held.specs.Held.{emptySlots, wellMade, isOf}
+use Rattle.held.specs.Held.{emptySlots}
 use Rattle.joining.specs.Pieces.{joined}
-use Rattle.body_tests.specs.Refusals.{countOf, numberOf, slotOf, pieceOf, bodyRefusal, refusalOf}
-use Rattle.relation.specs.Relation.{goesOn, repeats, relationTo}
+use Rattle.body_tests.specs.Refusals.{numberOf, slotOf, pieceOf, bodyRefusal, refusalOf}
+use Rattle.relation.specs.Relation.{repeats}
 use Rattle.collector.specs.Step.{relationOf, baseOf, noted, After, after, settledBy, settled, finished, accepted, collectStep}
 use Rattle.lending.specs.Lent.{lentStep}
 use Rattle.collection.specs.declared.Collection.{Collection}
@@ -94,7 +92,7 @@ refusalOf-most slots join body =
     (eqb (numberOf body) 0 || ltb 16 (numberOf body)) (eqb (getD body 2 0) 0 || ltb (numberOf body) (getD body 2 0))
 
 -- the call whose refusal number is n, 0 for none
-abbrev answered : Bool → ℕ → Collection → List ℕ → List ℕ → List ℕ → After
+abbrev pub answered : Bool → ℕ → Collection → List ℕ → List ℕ → List ℕ → After
 answered t n r slots join body = cond t (accepted r slots join body) (after (refused n) r slots join)
 
 pub collectStep-refused : (r : Collection) (slots join body : List ℕ) (n : ℕ) → collectStep r slots join body .answer ≡ refused n
@@ -110,95 +108,6 @@ collectStep-refused r slots join body n = go (eqb number 0) number refl (refusal
       let same : m ≡ n = cc in
       let some = eqb-false m 0 f in
       (ap (λ k. after (refused k) r slots join) same, omega arith, omega arith)
-
--- ---- refusal 21
-
--- the record with the loose setting
-abbrev pub loose : Collection → Collection
-loose r = record { count = r .count; number = r .number; filled = r .filled; lengths = r .lengths; strict = 0 }
-
--- what 21 leaves: L is what the loose setting leaves
-pub record Dropping (r : Collection) (off : ℕ) (R L : After) : Type 0 where
-  pub strict : isStrict r ≡ true
-  pub left : R ≡ after (dropped off) (emptyCollection (r .strict) 0 0) (L .slots) (L .join)
-  pub size : ℕ
-  pub completes : L .answer ≡ complete size
-
-finished-dropped : (next : Collection) (slots join : List ℕ) (len off : ℕ) → finished next slots join len .answer ≡ dropped off
-    → Dropping next off (finished next slots join len) (finished (loose next) slots join len)
-unfolding finished settled
-finished-dropped next slots join len off = go (eqb (emptySlots (next .filled) (next .number)) 0) (eqb (next .number) 1) (isStrict next) refl (cutsIn whole (next .lengths) (next .number)) where
-  whole : List ℕ
-  whole = joined slots (next .lengths) (next .number)
-
-  R : Bool → Bool → Bool → Ruling → After
-  R t u s v = cond t (cond u (after (complete len) next slots join)
-      (after (settledBy (cond s v allGood) next whole .answer) (settledBy (cond s v allGood) next whole .held) slots (whole ++ drop (length whole) join)))
-      (after (waiting (emptySlots (next .filled) (next .number))) next slots join)
-
-  L : Bool → Bool → After
-  L t u = cond t (cond u (after (complete len) (loose next) slots join) (after (complete (length whole)) (loose next) slots (whole ++ drop (length whole) join)))
-      (after (waiting (emptySlots (next .filled) (next .number))) (loose next) slots join)
-
-  go : (t u s : Bool) → isStrict next ≡ s → (v : Ruling) → R t u s v .answer ≡ dropped off → Dropping next off (R t u s v) (L t u)
-  go true false true e (badAt cut) d = let z : cut ≡ off = cc in record { strict = e; left = rw z refl; size = length whole; completes = refl }
-  go true false true e allGood d = absurd (let z : _≡_ {A = ℕ} 0 1 = cc in omega arith)
-  go true false false e v d = absurd (let z : _≡_ {A = ℕ} 0 1 = cc in omega arith)
-  go true true s e v d = absurd (let z : _≡_ {A = ℕ} 0 1 = cc in omega arith)
-  go false u s e v d = absurd (let z : _≡_ {A = ℕ} 0 1 = cc in omega arith)
-
-relation-loose : (r : Collection) (slots body : List ℕ) → relationOf (loose r) slots body ≡ relationOf r slots body
-unfolding relationTo isOf wellMade
-relation-loose r slots body = refl
-
--- the record that the piece is noted in goes along
-base-loose : (how : ℕ) (r : Collection) (body : List ℕ) (k len : ℕ) → noted (baseOf how (loose r) body) k len ≡ loose (noted (baseOf how r body) k len)
-unfolding baseOf
-base-loose how r body k len = go (eqb how goesOn) where
-  go : (t : Bool) → noted (cond t (loose r) (emptyCollection 0 (countOf body) (numberOf body))) k len ≡ loose (noted (cond t r (emptyCollection (r .strict) (countOf body) (numberOf body))) k len)
-  go true = refl
-  go false = refl
-
-base-strict : (how : ℕ) (r : Collection) (body : List ℕ) → baseOf how r body .strict ≡ r .strict
-unfolding baseOf
-base-strict how r body = go (eqb how goesOn) where
-  go : (t : Bool) → cond t r (emptyCollection (r .strict) (countOf body) (numberOf body)) .strict ≡ r .strict
-  go true = refl
-  go false = refl
-
-accepted-dropped : (r : Collection) (slots join body : List ℕ) (off : ℕ) → accepted r slots join body .answer ≡ dropped off
-    → Dropping r off (accepted r slots join body) (accepted (loose r) slots join body)
-unfolding accepted
-accepted-dropped r slots join body off =
-    rw (relation-loose r slots body, base-loose (relationOf r slots body) r body (slotOf body) (length body - 3)) (go (eqb (relationOf r slots body) repeats)) where
-      next : Collection
-      next = noted (baseOf (relationOf r slots body) r body) (slotOf body) (length body - 3)
-
-      put : List ℕ
-      put = pasted slots (slotOf body * 1500) (pieceOf body)
-
-      go : (t : Bool) → cond t (after again r slots join) (finished next put join (length body - 3)) .answer ≡ dropped off
-          → Dropping r off (cond t (after again r slots join) (finished next put join (length body - 3))) (cond t (after again (loose r) slots join) (finished (loose next) put join (length body - 3)))
-      go true e = absurd (let z : _≡_ {A = ℕ} 0 1 = cc in omega arith)
-      go false e =
-          let d = finished-dropped next put join (length body - 3) off e in
-          let s = base-strict (relationOf r slots body) r body in
-          let L = finished (loose next) put join (length body - 3) in
-          record {
-            strict = ap (λ x. not (eqb x 0)) (sym s) ∙ d .strict;
-            left = d .left ∙ ap (λ x. after (dropped off) (emptyCollection x 0 0) (L .slots) (L .join)) s;
-            size = d .size;
-            completes = d .completes;
-          }
-
-pub collectStep-dropped : (r : Collection) (slots join body : List ℕ) (off : ℕ) → collectStep r slots join body .answer ≡ dropped off
-    → Dropping r off (collectStep r slots join body) (collectStep (loose r) slots join body)
-unfolding collectStep
-collectStep-dropped r slots join body off = go (eqb (refusalOf (length slots) (length join) body) 0) where
-  go : (t : Bool) → answered t (refusalOf (length slots) (length join) body) r slots join body .answer ≡ dropped off
-      → Dropping r off (answered t (refusalOf (length slots) (length join) body) r slots join body) (answered t (refusalOf (length slots) (length join) body) (loose r) slots join body)
-  go true e = accepted-dropped r slots join body off e
-  go false e = absurd (let z : _≡_ {A = ℕ} 0 1 = cc in omega arith)
 
 -- a refused body lends no part, whatever the number of the record
 pub lentStep-refused : (r : Collection) (slots join body : List ℕ) (n : ℕ) → lentStep r slots join body .answer ≡ refused n

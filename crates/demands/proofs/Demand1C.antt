@@ -1,8 +1,10 @@
 -- Demand1C: the first demand as a C host sees it (crate dsg): by the kind or the number of an answer alone it knows that it was refused, that
--- what it lent is as it was, and that the number is one of document 01's for that call.
+-- what it lent is as it was, and that the number is one of document 01's for that call; kind 5 alone says that the record was emptied.
 --
 --   collectAfter-refused   `dsg_collect`, kind 0: 1 to 5; the record and both buffers are as they were
---   receiveAfter-refused   `dsg_receive`, kind 0: the same, and the table
+--   collectAfter-dropped   `dsg_collect`, kind 5: 21 at the first bad cut; the record is empty but for its setting, both buffers are as at Complete
+--   receiveAfter-refused   `dsg_receive`, kind 0: the same as of `dsg_collect`, and the table
+--   receiveAfter-dropped   `dsg_receive`, kind 5: the same as of `dsg_collect`, and the table is as it was
 --   receiveAfter-message   `dsg_receive`, kind 4: the number and the offset that reading the message gives, 3 at 0, or 6 to 15; the table is as it was
 --   receiveAfter-kept      `dsg_receive`, any kind: the record and both buffers are exactly those that `dsg_collect` leaves
 --   readStepped-refused    `dsg_read`, a number that is not 0: 3 at 0, or 6 to 15; the table is as it was
@@ -22,6 +24,7 @@ use lib.ListN.{length}
 use lib.Dec.{eqb}
 use Rattle.collector.specs.Answers.{Said, refused, again, waiting, complete, dropped, Place, inBody, placeOf}
 use Rattle.collector.specs.Step.{After, collectStep}
+use Rattle.collection.specs.Record.{emptyCollection}
 use Rattle.collection.specs.declared.Collection.{Collection}
 use Rattle.table.specs.declared.Table.{Table}
 use Rattle.reader.specs.Read.{numberOf, offsetOf, readTable}
@@ -45,16 +48,18 @@ use Rattle.dsg_tables.specs.Tables.{readStepped, listedAs, listingAs}
 use Rattle.dsg_frames.specs.Frames.{clientOf, ucidOf, choiceFor, verdictAs, verdictFor}
 use Rattle.dsg_events.specs.Events.{eventStepped}
 use Rattle.demands.proofs.Demand1.{collectStep-refused, readTable-refused, listing-refused}
-use Rattle.demands.proofs.Demand1Receive.{receiveStep-refused, receiveStep-message, receiveStep-kept, messageAfter}
+use Rattle.demands.proofs.Demand1Dropped.{loose, Dropping, collectStep-dropped}
+use Rattle.demands.proofs.Demand1Receive.{receiveStep-refused, receiveStep-dropped, receiveStep-message, receiveStep-kept, messageAfter}
 use Rattle.demands.proofs.Demand1Frames.{choiceOf-refused, verdictOf-refused, preparedVerdict-refused, numberedStep-refused}
 
 -- ---- bodies
 
-complete-kind : (p : Place) → completeAt p .kind ≡ 0 → ⊥
+-- kinds 3 and 4 are said of a complete message
+complete-kind : (p : Place) → (3 ≤ completeAt p .kind) × (completeAt p .kind ≤ 4)
 complete-kind p = go (eqb (p .source) inBody) where
-  go : (b : Bool) → _≡_ {A = ℕ} (cond b 3 4) 0 → ⊥
-  go true e = omega arith
-  go false e = omega arith
+  go : (b : Bool) → (3 ≤ cond {A = ℕ} b 3 4) × (cond {A = ℕ} b 3 4 ≤ 4)
+  go true = (omega arith, omega arith)
+  go false = (omega arith, omega arith)
 
 -- kind 0 is said of a refusal only, with its number
 refused-kind : (s : Said) (number : ℕ) → collectedOf s number .kind ≡ 0 → s ≡ refused (collectedOf s number .number)
@@ -62,7 +67,7 @@ refused-kind (refused n) number e = refl
 refused-kind again number e = absurd (omega arith)
 refused-kind (waiting k) number e = absurd (omega arith)
 refused-kind (dropped cut) number e = absurd (omega arith)
-refused-kind (complete n) number e = absurd (complete-kind (placeOf (complete n) number) e)
+refused-kind (complete n) number e = let k = complete-kind (placeOf (complete n) number) in absurd (omega arith)
 
 pub collectAfter-refused : (r : Collection) (slots join body : List ℕ) → (let x = collectAfter r slots join body in x .answer .kind ≡ 0
     → (x .held ≡ r) × (x .slots ≡ slots) × (x .join ≡ join) × (1 ≤ x .answer .number) × (x .answer .number ≤ 5))
@@ -70,6 +75,22 @@ collectAfter-refused r slots join body e =
     let a = collectStep r slots join body in
     let c = collectStep-refused r slots join body _ (refused-kind (a .answer) (a .held .number) e) in
     (ap (λ (s : After). s .held) (c .0), ap (λ (s : After). s .slots) (c .0), ap (λ (s : After). s .join) (c .0), c .1, c .2)
+
+-- kind 5 of 21 only, with the offset of the cut
+dropped-kind : (s : Said) (number : ℕ) → collectedOf s number .kind ≡ 5 → (s ≡ dropped (collectedOf s number .offset)) × (collectedOf s number .number ≡ 21)
+dropped-kind (refused n) number e = absurd (omega arith)
+dropped-kind again number e = absurd (omega arith)
+dropped-kind (waiting k) number e = absurd (omega arith)
+dropped-kind (complete n) number e = let k = complete-kind (placeOf (complete n) number) in absurd (omega arith)
+dropped-kind (dropped cut) number e = (refl, refl)
+
+pub collectAfter-dropped : (r : Collection) (slots join body : List ℕ) → (let x = collectAfter r slots join body in let l = collectStep (loose r) slots join body in x .answer .kind ≡ 5
+    → (x .answer .number ≡ 21) × (x .held ≡ emptyCollection (r .strict) 0 0) × (x .slots ≡ l .slots) × (x .join ≡ l .join) × Dropping r (x .answer .offset) (collectStep r slots join body) l)
+collectAfter-dropped r slots join body e =
+    let a = collectStep r slots join body in
+    let k = dropped-kind (a .answer) (a .held .number) e in
+    let d = collectStep-dropped r slots join body _ (k .0) in
+    (k .1, ap (λ (s : After). s .held) (d .left), ap (λ (s : After). s .slots) (d .left), ap (λ (s : After). s .join) (d .left), d)
 
 body-kind : (a : Told) → receivedOf a .kind ≡ 0 → a ≡ told.bodyRefused (receivedOf a .number)
 body-kind (told.bodyRefused n) e = refl
@@ -100,6 +121,22 @@ pub receiveAfter-message : (r : Collection) (t : Table) (slots join body : List 
 receiveAfter-message r t slots join body e =
     let c = receiveStep-message r t slots join body _ _ (message-kind (receiveStep r t slots join body .report) e) in
     (ap (λ (s : Had). s .table) (c .0), c .1, c .2)
+
+received-dropped : (a : Told) → receivedOf a .kind ≡ 5 → (a ≡ told.dropped (receivedOf a .offset)) × (receivedOf a .number ≡ 21)
+received-dropped (told.bodyRefused n) e = absurd (omega arith)
+received-dropped told.again e = absurd (omega arith)
+received-dropped (told.waiting k) e = absurd (omega arith)
+received-dropped told.accepted e = absurd (omega arith)
+received-dropped (told.messageRefused n off) e = absurd (omega arith)
+received-dropped (told.dropped cut) e = (refl, refl)
+
+pub receiveAfter-dropped : (r : Collection) (t : Table) (slots join body : List ℕ) → (let x = receiveAfter r t slots join body in let l = collectStep (loose r) slots join body in x .answer .kind ≡ 5
+    → (x .answer .number ≡ 21) × (x .held ≡ emptyCollection (r .strict) 0 0) × (x .table ≡ t) × (x .slots ≡ l .slots) × (x .join ≡ l .join)
+    × Dropping r (x .answer .offset) (collectStep r slots join body) l)
+receiveAfter-dropped r t slots join body e =
+    let k = received-dropped (receiveStep r t slots join body .report) e in
+    let d = receiveStep-dropped r t slots join body _ (k .0) in
+    (k .1, ap (λ (s : Had). s .held) (d .0), ap (λ (s : Had). s .table) (d .0), ap (λ (s : Had). s .slots) (d .0), ap (λ (s : Had). s .join) (d .0), d .1)
 
 pub receiveAfter-kept : (r : Collection) (t : Table) (slots join body : List ℕ)
     → (let x = receiveAfter r t slots join body in let y = collectAfter r slots join body in (x .held ≡ y .held) × (x .slots ≡ y .slots) × (x .join ≡ y .join))

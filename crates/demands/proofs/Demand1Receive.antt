@@ -23,7 +23,8 @@ use Rattle.reader.specs.declared.Verdict.{Verdict}
 use Rattle.reader.specs.declared.Verdict.the-variants as reading
 use Rattle.receiver.specs.Receive as told
 use Rattle.receiver.specs.Receive.{reported, taken, receiveStep}
-use Rattle.demands.proofs.Demand1.{collectStep-refused, loose, Dropping, collectStep-dropped, readTable-refused}
+use Rattle.demands.proofs.Demand1.{collectStep-refused, readTable-refused}
+use Rattle.demands.proofs.Demand1Dropped.{loose, Dropping, collectStep-dropped}
 use Rattle.collection.specs.Record.{emptyCollection}
 
 reported-refused : (v : Verdict) (n : ℕ) → reported v ≡ told.bodyRefused n → ⊥

@@ -49,17 +49,17 @@ demand-3 s room space count message pieces cut passes apart =
     record { completed = d; read = λ t k l missing others given. ap (λ (r : Reply). readTable given (r .lent)) (d .last t k l missing others) }
 
 pub demand-3-there : (s : Lent) → 24000 ≤ length (s .slots) → 24000 ≤ length (s .join) → (count : ℕ) (message : List ℕ) (pieces : List (List ℕ)) → Cutting message pieces
-    → Apart (s .held) count (length pieces) → OnlyThere s count pieces
-demand-3-there s room space count message pieces cut apart =
-    only-there s count message pieces (collected-proved.demand-3 s room space count message pieces cut apart)
+    → (isStrict (s .held) ≡ true → Passes message pieces) → Apart (s .held) count (length pieces) → OnlyThere s count pieces
+demand-3-there s room space count message pieces cut passes apart =
+    only-there s count message pieces (collected-proved.demand-3 s room space count message pieces cut passes apart)
 
 -- over what is lent, and over what a C host is told: crate collector_lent
 pub demand-3-lent : (s : Lent) → 24000 ≤ length (s .slots) → 24000 ≤ length (s .join) → (count : ℕ) (message : List ℕ) (pieces : List (List ℕ)) → Cutting message pieces
-    → Apart (s .held) count (length pieces) → LentOnce s count message pieces
+    → (isStrict (s .held) ≡ true → Passes message pieces) → Apart (s .held) count (length pieces) → LentOnce s count message pieces
 demand-3-lent = demand-3-parts
 
 pub demand-3-seen : (s : Lent) → 24000 ≤ length (s .slots) → 24000 ≤ length (s .join) → (count : ℕ) (message : List ℕ) (pieces : List (List ℕ)) → Cutting message pieces
-    → Apart (s .held) count (length pieces) → HostOnce s count message pieces
+    → (isStrict (s .held) ≡ true → Passes message pieces) → Apart (s .held) count (length pieces) → HostOnce s count message pieces
 demand-3-seen = demand-3-host
 
 pub uncut-short : (message : List ℕ) (pieces : List (List ℕ)) → Cutting message pieces → length message ≤ 23952

@@ -2,13 +2,13 @@
 --
 --   lendable-sized   a record to which the language gives machine values is Sized
 --   demand-2-lent    demand 2 for every such record, that is for every record that a call can be lent
---   empty-lendable   there is one: the record with nothing collected
+--   empty-lendable   there are such: the records with nothing collected, one for each setting
 --
 -- That what is owned has such values is the logic's `shows` (denote, Laws.antt): owning r at vs shows `Is` of them, for every type, in every model.
 -- Trusts: nothing.
 use Prim.Native.Nat.{ℕ, zero, suc, _^_, _≤_, _<_}
 use mathlib.Core.Path.{_≡_, refl, sym, _∙_}
-use mathlib.Core.List.{List, _++_}
+use mathlib.Core.List.{List}
 use native.Mathlib.Omega.{arith}
 use lib.ListN.{length, replicate, length-map}
 use mir.Syntax.{Width, w8, w16}
@@ -19,10 +19,10 @@ use denote.Plain.{UInt}
 use denote.Array.{each}
 use denote.Struct.Laws as LL
 use Rattle.collection.specs.declared.Collection.{Collection}
-use Rattle.collection.specs.Record.{emptyCollection}
+use Rattle.collection.specs.Record.{emptyCollection, isStrict}
 use Rattle.collection.proofs.Collection as record-type
 use Rattle.collection.proofs.Collection.Laws as record-laws
-use Rattle.collector_demands.specs.Runs.{runOf, replyOf, HeldBy, standsFor, Sized}
+use Rattle.collector_demands.specs.Runs.{runFrom, replyFrom, HeldBy, standsFor, Sized}
 use Rattle.collector_demands.specs.Demand.{Lent, lentAfter, replyTo}
 use Rattle.collector_demands.proofs.Demands.{demand-2}
 
@@ -36,7 +36,8 @@ lendable-sized r vs is =
     record { flags = sym (length-map (r .filled) _) ∙ fields .1 .1 .0 .1 .0 .1; lens = sym (length-map (r .lengths) _) ∙ fields .1 .1 .1 .0 .1 .0 .1 }
 
 pub demand-2-lent : (s : Lent) (vs : List Val) → Lendable (s .held) vs → 24000 ≤ length (s .slots) → 24000 ≤ length (s .join) → (h : List (List ℕ)) (b : List ℕ)
-    → (replyTo s h b ≡ replyOf (h ++ standsFor (s .held) (s .slots)) b) × HeldBy (runOf (h ++ standsFor (s .held) (s .slots))) (lentAfter s h .held) (lentAfter s h .slots)
+    → (replyTo s h b ≡ replyFrom (isStrict (s .held)) (standsFor (s .held) (s .slots)) h b)
+    × HeldBy (runFrom (isStrict (s .held)) (standsFor (s .held) (s .slots)) h) (lentAfter s h .held) (lentAfter s h .slots)
 demand-2-lent s vs is = demand-2 s (lendable-sized (s .held) vs is)
 
 -- ---- a record that is so
@@ -46,9 +47,9 @@ zeroes : (w : Width) → 0 < 2 ^ bits w → (n : ℕ) → shadow (each ℕ (UInt
 zeroes w l zero = tt
 zeroes w l (suc n) = ((refl, l), zeroes w l n)
 
-pub empty-lendable : Lendable (emptyCollection 0 0) (LL.vals record-type.the-type record-laws.the-laws (emptyCollection 0 0))
-empty-lendable =
+pub empty-lendable : (strict : ℕ) → strict < 2 ^ bits w16 → Lendable (emptyCollection strict 0 0) (LL.vals record-type.the-type record-laws.the-laws (emptyCollection strict 0 0))
+empty-lendable strict fits =
     let byte : 0 < 2 ^ bits w8 = omega arith in
     let pair : 0 < 2 ^ bits w16 = omega arith in
-    LL.owes record-type.the-type record-laws.the-laws (emptyCollection 0 0)
-    ((refl, byte), ((refl, byte), ((replicate 16 (vint w8 0), ((refl, refl), zeroes w8 byte 16)), ((replicate 16 (vint w16 0), ((refl, refl), zeroes w16 pair 16)), tt))))
+    LL.owes record-type.the-type record-laws.the-laws (emptyCollection strict 0 0)
+    ((refl, byte), ((refl, byte), ((replicate 16 (vint w8 0), ((refl, refl), zeroes w8 byte 16)), ((replicate 16 (vint w16 0), ((refl, refl), zeroes w16 pair 16)), ((refl, fits), tt)))))

@@ -1,7 +1,7 @@
 -- Contract: what it means that a contract gives a definition, and that it admits one answer.
 -- Parts, PartsPieces: the contracts of the lower crates.      Demand2, Demand2Frames: those of the entries that demand 2 names.
 -- Exported: those of the C interface.
--- Demand1: what a refusal leaves, and its numbers; with Demand1Receive, Demand1Frames and, as a C host sees it, Demand1C.
+-- Demand1: what a refusal leaves, and its numbers; with Demand1Dropped (21, which empties the record), Demand1Receive, Demand1Frames and, as a C host sees it, Demand1C.
 -- Demand3: a cut message completes once, at its last missing piece; what is lent, named to a C host and read there is the uncut one.
 -- OneAnswer, OneAnswerParts, OneAnswerPieces, OneAnswerC: every contract admits one answer.      Values: both, of the functions under the C interface.
 -- Lendable: demand 2 for every record that a call can be lent.
@@ -17,6 +17,7 @@ pub mod Contract
 pub mod Parts
 pub mod PartsPieces
 pub mod Demand1
+pub mod Demand1Dropped
 pub mod Demand1Receive
 pub mod Demand1Frames
 pub mod Demand1C

@@ -1,6 +1,7 @@
 -- OneAnswerPieces: the contract of every public function of the other lower crates (those of PartsPieces) admits one answer only, as
 -- OneAnswerParts says it of those that reading stands on.
 -- Trusts: nothing.
+use mathlib.Core.Path.{sym, _∙_}
 use contract.Lifetimes.{Lfts}
 use denote.Ref.{now}
 use Rattle.demands.proofs.Contract.{One, only, answer}
@@ -8,6 +9,8 @@ use Rattle.demands.proofs.PartsPieces as pieces
 use Rattle.joining.specs.Pieces.{JoinAfter}
 use Rattle.texts.specs.Put.{Put}
 use Rattle.notices.specs.Listing.{Listing, written}
+use Rattle.cuts.proofs.Ruling.{ruling-only}
+use Rattle.cuts.proofs.judge_cuts.Reads as judge_cuts
 use Rattle.collection.proofs.begin.Reads as begin
 use Rattle.held.proofs.is_of.Reads as is_of
 use Rattle.joining.proofs.join_pieces.Reads as join_pieces
@@ -25,7 +28,10 @@ use Rattle.notices.proofs.list_refusal.Reads as list_refusal
 use Rattle.notices.proofs.list_waiting.Reads as list_waiting
 use Rattle.listing.proofs.list_table.Reads as list_table
 
--- ---- collection, held, joining, relation, body_tests
+-- ---- cuts, collection, held, joining, relation, body_tests
+
+pub judge_cuts-one : (κs : Lfts 1) → One answer (judge_cuts.Post κs)
+judge_cuts-one κs a x y s t h g = ruling-only x y (h ∙ sym g)
 
 pub begin-one : (κs : Lfts 0) → One answer (begin.Post κs)
 begin-one κs = only (pieces.begin-gives κs)

@@ -1,9 +1,11 @@
--- PartsPieces: what the public functions of the other lower crates give (collection, held, joining, relation, body_tests, packets, matching,
+-- PartsPieces: what the public functions of the other lower crates give (cuts, collection, held, joining, relation, body_tests, packets, matching,
 -- texts, notices, listing, bodies): each its definition, for every input, as Parts says it of those that reading stands on.
 -- Trusts: nothing.
 use contract.Lifetimes.{Lfts}
 use denote.Ref.{now}
 use Rattle.demands.proofs.Contract.{Gives, answer}
+use Rattle.cuts.specs.Cuts.{Ruling, ruling, cutsIn}
+use Rattle.cuts.proofs.judge_cuts.Reads as judge_cuts
 use Rattle.collection.specs.Record.{emptyCollection}
 use Rattle.held.specs.Held.{isOf}
 use Rattle.joining.specs.Pieces.{JoinAfter, joinStep}
@@ -34,7 +36,10 @@ use Rattle.listing.proofs.list_table.Reads as list_table
 use Rattle.notices.proofs.list_refusal.Reads as list_refusal
 use Rattle.notices.proofs.list_waiting.Reads as list_waiting
 
--- ---- collection, held, joining, relation, body_tests
+-- ---- cuts, collection, held, joining, relation, body_tests
+
+pub judge_cuts-gives : (κs : Lfts 1) → Gives {L = Ruling} (λ x s. ruling x) (judge_cuts.Post κs) (λ a. cutsIn (now (a .0)) (a .1 .0) (a .1 .1 .0))
+judge_cuts-gives κs a x s h = h
 
 pub begin-gives : (κs : Lfts 0) → Gives answer (begin.Post κs) (λ a. emptyCollection (a .0) (a .1 .0) (a .1 .1 .0))
 begin-gives κs a x s h = h
