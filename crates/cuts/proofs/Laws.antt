@@ -2,7 +2,7 @@
 --
 --   mayIn-item       a cut behind an element's start is judged by the row behind the element
 --   mayIn-here       a cut where the row begins is good          mayIn-before     one before it is bad, in the message
---   mayIn-free       behind a place where no element stands nothing is judged
+--   mayIn-free       behind a place where no element stands nothing is judged     mayCut-past      nor past the message's end
 -- Trusts: nothing.
 use Prim.Native.Nat.{ℕ, zero, suc, _+_, _-_, _≤_, _<_}
 use mathlib.Core.Path.{_≡_, refl, sym, ap, _∙_}
@@ -18,28 +18,29 @@ use Rattle.elements.specs.declared.Head.the-variants.{End, Refused, Value}
 use Rattle.elements.proofs.Laws.{headAt-ends, headAt-starts, headAt-fits}
 use Rattle.children.specs.Rows.{Row, done, bad, item, rowWith, rowIn}
 use Rattle.children.proofs.Laws.{rowIn-rule, rowIn-stop}
-use Rattle.cuts.specs.Cuts.{startsAt, judgedTo, mayIn}
+use Rattle.cuts.specs.Cuts.{startsAt, judgedTo, mayIn, mayCut}
 
 pub mayIn-item : (at len : ℕ) (rest : Row) (end c : ℕ) → at < c → mayIn (item at len rest) end c ≡ mayIn rest end c
 unfolding mayIn startsAt judgedTo
 mayIn-item at len rest end c l = simp (ne-eqb at c (λ e. omega arith))
 
--- all elements of the row start from `at` on, and the judging ends there or later
+-- all elements of the row start from `at` on, and the judging ends there or later, and in the message
 pub record From (at end : ℕ) (row : Row) : Type 0 where
   pub none : (c : ℕ) → c < at → startsAt row c ≡ false
   pub judged : at ≤ judgedTo row end
+  pub inside : judgedTo row end ≤ end
 
 -- by one head, and the rows from later places on
 from-head : (msg : List ℕ) (at : ℕ) (h : Head) → headAt msg at (length msg) ≡ h → at ≤ length msg
     → ((next : ℕ) → at < next → next ≤ length msg → From next (length msg) (rowIn msg next (length msg)))
     → From at (length msg) (rowWith (λ next. rowIn msg next (length msg)) at h)
 unfolding startsAt judgedTo
-from-head msg at End e fits i = record { none = λ c q. refl; judged = fits }
-from-head msg at (Refused n) e fits i = record { none = λ c q. ne-eqb at c (λ z. omega arith); judged = omega arith }
+from-head msg at End e fits i = record { none = λ c q. refl; judged = fits; inside = omega arith }
+from-head msg at (Refused n) e fits i = record { none = λ c q. ne-eqb at c (λ z. omega arith); judged = omega arith; inside = fits }
 from-head msg at (Value len) e fits i =
     let f = headAt-fits msg at (length msg) e in
     let r = i (at + 2 + len) (omega arith) (f .0) in
-    record { none = λ c q. simp (ne-eqb at c (λ z. omega arith), r .none c (omega arith)); judged = omega (arith, r .judged) }
+    record { none = λ c q. simp (ne-eqb at c (λ z. omega arith), r .none c (omega arith)); judged = omega (arith, r .judged); inside = r .inside }
 
 from-rest : (k : ℕ) (msg : List ℕ) (at : ℕ) → length msg - at ≤ k → at ≤ length msg → From at (length msg) (rowIn msg at (length msg))
 from-rest zero msg at left fits =
@@ -74,3 +75,11 @@ mayIn-free msg at c {h} e never l = rw (rowIn-rule msg at (length msg), ← e) (
     on End f never = let z = headAt-ends msg at (length msg) (sym f) in simp (lt-ltb (length msg) c (omega arith)) (or-true (eqb c (length msg)))
     on (Refused n) f never = simp (lt-ltb at c l, ne-eqb at c (λ z. omega arith)) (or-true (eqb c (length msg)))
     on (Value len) f never = absurd (never len refl)
+
+-- past the message's end nothing is judged
+pub mayCut-past : (msg : List ℕ) (c : ℕ) → length msg < c → mayCut msg c ≡ true
+unfolding mayIn
+mayCut-past msg c l =
+    let f = from-rest (length msg) msg 0 (omega arith) (omega arith) in
+    let i = f .inside in
+    simp (lt-ltb (judgedTo (rowIn msg 0 (length msg)) (length msg)) c (omega arith), or-true (eqb c (length msg))) (or-true (startsAt (rowIn msg 0 (length msg)) c))

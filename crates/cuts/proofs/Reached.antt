@@ -3,6 +3,7 @@
 --
 --   mayCut-says      where a cut may be, the walk arrives there or stops before it
 --   reached-may, fault-may       and only there
+--   free-may, inside-never       behind a place where the walk stops a cut may be; inside an element that it reaches none may
 -- Trusts: nothing.
 use Prim.Native.Nat.{ℕ, zero, suc, _+_, _-_, _≤_, _<_}
 use mathlib.Core.Path.{_≡_, refl, sym, ap, _∙_}
@@ -37,14 +38,22 @@ agrees msg (next {at} len t e) =
 pub reached-may : (msg : List ℕ) (c : ℕ) → Reached msg c → mayCut msg c ≡ true
 reached-may msg c t = let i = agrees msg t in i .1 c (omega arith) ∙ mayIn-here msg c (i .0)
 
+-- behind a place where no element stands, and inside an element
+pub free-may : (msg : List ℕ) (at c : ℕ) → Reached msg at → {h : Head} → h ≡ headAt msg at (length msg) → ((len : ℕ) → h ≡ Value len → ⊥) → at < c → mayCut msg c ≡ true
+free-may msg at c t e never l = agrees msg t .1 c (omega arith) ∙ mayIn-free msg at c e never l
+
+pub inside-never : (msg : List ℕ) (at c : ℕ) {len : ℕ} → Reached msg at → headAt msg at (length msg) ≡ Value len → at < c → c < at + 2 + len → mayCut msg c ≡ false
+inside-never msg at c {len} t e l m =
+    agrees msg t .1 c (omega arith)
+    ∙ ap (λ r. mayIn r (length msg) c) (rowIn-item msg at (length msg) (ap stood (sym e)) refl)
+    ∙ mayIn-item at len _ (length msg) c l
+    ∙ mayIn-before msg (at + 2 + len) c m (headAt-fits msg at (length msg) e .1)
+
 no-len : (n len : ℕ) → Refused n ≡ Value len → ⊥
 no-len n len e = let z : _≡_ {A = ℕ} 0 1 = cc in omega arith
 
 pub fault-may : (msg : List ℕ) (c : ℕ) → FaultBefore msg c → mayCut msg c ≡ true
-fault-may msg c f =
-    let i = agrees msg (f .reached) in
-    let b = f .before in
-    i .1 c (omega arith) ∙ mayIn-free msg (f .place) c (sym (f .faulty)) (λ len v. no-len (f .number) len v) b
+fault-may msg c f = free-may msg (f .place) c (f .reached) (sym (f .faulty)) (λ len v. no-len (f .number) len v) (f .before)
 
 -- a cut behind a place that the walk reaches: the element there is passed, or the walk stops
 behind : (msg : List ℕ) (at c : ℕ) (h : Head) → headAt msg at (length msg) ≡ h → Reached msg at → at < c → c ≤ length msg
