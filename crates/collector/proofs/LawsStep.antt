@@ -7,7 +7,7 @@
 -- Trusts: nothing.
 use Prim.Native.Nat.{ℕ, zero, suc, _+_, _-_, _≤_, _<_}
 use mathlib.Core.Path.{_≡_, refl}
-use mathlib.Core.Bool.{Bool, true, false, cond, not}
+use mathlib.Core.Bool.{Bool, true, false, cond}
 use mathlib.Core.List.{List, [], _∷_, _++_}
 use native.Mathlib.Omega.{arith}
 use borrow.Author.Tests.{eqb-true, eq-eqb, ne-eqb}
@@ -15,7 +15,7 @@ use lib.ListN.{length, getD, set, getD-replicate, take, drop, length-drop, lengt
 use lib.Seq.{length-take-le, take-append-seam}
 use lib.Dec.{eqb}
 use Rattle.collector.specs.Answers.{Said, refused, again, waiting, complete, dropped}
-use Rattle.collection.specs.Record.{emptyCollection, isStrict}
+use Rattle.collection.specs.Record.{emptyCollection}
 use Rattle.cuts.specs.Cuts.{ruling, cutsIn}
 use Rattle.cuts.specs.declared.Cuts.{Cuts}
 use Rattle.cuts.specs.declared.Cuts.the-variants.{Good, Bad}

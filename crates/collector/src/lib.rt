@@ -11,7 +11,7 @@ ghost use Prim.Native.Nat.{ℕ, _≤_, _<_};
 ghost use lib.ListN.{length, getD, take};
 ghost use Rattle.held.specs.Held.{emptySlots};
 ghost use Rattle.collector.specs.Answers.{said};
-ghost use Rattle.collector.specs.Duties.{begun, storedStep};
+ghost use Rattle.collector.specs.Duties.{begun, storedStep, heldAfter};
 ghost use Rattle.collector.specs.Step.{settled, finished, collectStep};
 use collection::Collection;
 use cuts::Cuts;
@@ -64,57 +64,49 @@ fn base(how: u8, held: Collection, count: u8, number: u8) -> Collection
 }
 
 // What a message of several pieces comes to, which are joined in the first `size` bytes of the join buffer.
-fn settle(next: Collection, join: &[u8], size: usize) -> Outcome
+fn settle(next: Collection, join: &[u8], size: usize) -> Answer
     requires { ⌜ size ≤ length (now join) ⌝ }
-    ensures { λ r. ⌜ record { answer = said (r .answer); held = r .held } ≡ settled next (take size (now (join .entry))) ⌝ }
+    ensures { λ r. ⌜ record { answer = said r; held = heldAfter (said r) next } ≡ settled next (take size (now (join .entry))) ⌝ }
 {
     if next.strict == 0 {
-        return Outcome {
-            answer: Answer::Complete(size),
-            held: next,
-        };
+        return Answer::Complete(size);
     }
     let lengths = next.lengths;
     let n = next.number as usize;
     match cuts::judge_cuts(&join[..size], lengths, n) {
-        Cuts::Good => Outcome {
-            answer: Answer::Complete(size),
-            held: next,
-        },
-        Cuts::Bad(cut) => {
-            let emptied = collection::empty_collection(next.strict);
-            Outcome {
-                answer: Answer::Dropped(cut),
-                held: emptied,
-            }
-        }
+        Cuts::Good => Answer::Complete(size),
+        Cuts::Bad(cut) => Answer::Dropped(cut),
     }
 }
 
-// The answer to a piece of `len` bytes that is stored and noted, and the record after it; a message of several pieces is joined.
-fn finish(next: Collection, slots: &[u8], join: &mut [u8], len: usize) -> Outcome
+// The answer to a piece of `len` bytes that is stored and noted; a message of several pieces is joined.
+fn finish(next: Collection, slots: &[u8], join: &mut [u8], len: usize) -> Answer
     requires { ⌜ (next .number ≤ 16) × (24000 ≤ length (now join)) ⌝ }
     requires { ⌜ ((k : ℕ) → k < 16 → getD (next .lengths) k 0 ≤ 1497) ⌝ }
-    ensures { λ r. ⌜ record { answer = said (r .answer); held = r .held; slots = now (slots .entry); join = now (join .exit) } ≡ finished next (now (slots .entry)) (now (join .entry)) len ⌝ }
+    ensures { λ r. ⌜ record { answer = said r; held = heldAfter (said r) next; slots = now (slots .entry); join = now (join .exit) } ≡ finished next (now (slots .entry)) (now (join .entry)) len ⌝ }
 {
     let filled = next.filled;
     let n = next.number as usize;
     let empty = count_empty(filled, n);
     if empty != 0 {
-        return Outcome {
-            answer: Answer::Waiting(empty),
-            held: next,
-        };
+        return Answer::Waiting(empty);
     }
     if n == 1 {
-        return Outcome {
-            answer: Answer::Complete(len),
-            held: next,
-        };
+        return Answer::Complete(len);
     }
     let lengths = next.lengths;
     let size = joining::join_pieces(slots, join, lengths, n);
     settle(next, join, size)
+}
+
+// The record that an answer leaves: refusal 21 empties it, but for its setting.
+fn leave(answer: Answer, next: Collection) -> Collection
+    ensures { λ r. ⌜ r ≡ heldAfter (said answer) next ⌝ }
+{
+    let Answer::Dropped(_) = answer else {
+        return next;
+    };
+    collection::empty_collection(next.strict)
 }
 
 // Notes the piece in `from` and stores it in slot `k`; the answer, and the record after it.
@@ -130,7 +122,11 @@ fn accept(from: Collection, slots: &mut [u8], join: &mut [u8], k: usize, piece: 
     next.lengths[k] = len as u16;
     let at = k * joining::SLOT_BYTES;
     wire::copy_at(slots, at, piece);
-    finish(next, slots, join, len)
+    let answer = finish(next, slots, join, len);
+    Outcome {
+        answer,
+        held: leave(answer, next),
+    }
 }
 
 // One body: its answer and the record after it; the piece is stored, and a message of several pieces joined.

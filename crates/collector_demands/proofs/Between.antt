@@ -4,11 +4,11 @@
 --   between-good     such a cutting passes
 -- Trusts: nothing.
 use Prim.Native.Nat.{ℕ, zero, suc, _+_, _≤_, _<_}
-use mathlib.Core.Path.{_≡_, refl, sym, ap, _∙_}
+use mathlib.Core.Path.{_≡_, sym, _∙_}
 use mathlib.Core.List.{List, [], _∷_, _++_, append-assoc}
 use native.Mathlib.Omega.{arith}
 use lib.ListN.{length, getD, length-append}
-use Rattle.cuts.specs.Cuts.{mayCut, sumTo}
+use Rattle.cuts.specs.Cuts.{sumTo}
 use Rattle.cuts.specs.Walks.{Reached, first, Elements}
 use Rattle.cuts.proofs.Reached.{reached-may}
 use Rattle.cuts.proofs.Each.{sumTo-cons}

@@ -18,7 +18,7 @@ use Rattle.cuts.specs.Cuts.{allGood}
 use Rattle.collector.specs.Answers.{Said, refused}
 use Rattle.collection.specs.Record.{emptyCollection, isStrict}
 use Rattle.cuts.proofs.Says.{cutsIn-same, cutsIn-good}
-use Rattle.held.specs.Held.{emptySlots, soundTo, wellMade, isOf}
+use Rattle.held.specs.Held.{wellMade, isOf}
 use Rattle.body_tests.specs.Refusals.{countOf, numberOf, bodyRefusal, refusalOf}
 use Rattle.relation.specs.Relation.{anew, relationTo}
 use Rattle.collector.specs.Step.{relationOf, baseOf, After, after, accepted, collectStep}

@@ -1,8 +1,9 @@
--- A well-made record and its slot buffer hold the run of `standsFor` (specs/Runs.antt): so every lent record is one that a history of bodies leaves,
--- and the list of records that count as nothing collected is exactly that of the records that no history leaves.
+-- A well-made record and its slot buffer hold the run of `standsFor` (specs/Runs.antt). Under the loose setting these bodies are a history that leaves it: so
+-- the list of records that count as nothing collected is exactly that of the records that no history leaves. Under the strict one a record
+-- that is complete with a bad cut stands for a run too, which no history leaves (docs/DECISIONS.md, D-072).
 --
---   bodiesTo-run     the bodies of the filled slots are a run of their own
---   rep-any          a record has the run of the history that it stands for
+--   standsFor-run    the bodies of the filled slots are a history of their own, under the loose setting
+--   rep-any          a record has the run that it stands for
 -- Trusts: nothing.
 use Prim.Native.Nat.{ℕ, zero, suc, _+_, _-_, _≤_, _<_}
 use mathlib.Core.Path.{_≡_, refl, sym, _∙_}
@@ -20,8 +21,9 @@ use Rattle.joining.specs.Pieces.{pieceAt}
 use Rattle.body_tests.specs.Refusals.{countOf, numberOf, bodyRefusal}
 use Rattle.collection.specs.declared.Collection.{Collection}
 use Rattle.joining.proofs.Laws.{length-pieceAt-le}
-use Rattle.collector_demands.specs.Runs.{empty, full, accepts, lookup, continues, runOf, bodyIn, bodiesTo, standsFor, Sized}
+use Rattle.collector_demands.specs.Runs.{empty, full, accepts, lookup, continues, runFrom, runOf, bodyIn, bodiesTo, standsFor, Sized}
 use Rattle.collector_demands.proofs.Sound.{slotAt, wellMade-few, wellMade-within, wellMade-short, wellMade-flag, wellMade-has}
+use Rattle.collector_demands.proofs.Loose.{loose-run}
 use Rattle.collector_demands.proofs.Refine.{Rep, idle, busy}
 
 module _ (r : Collection) (slots : List ℕ) (made : wellMade r ≡ true) (room : 24000 ≤ length slots) where
@@ -59,6 +61,24 @@ module _ (r : Collection) (slots : List ℕ) (made : wellMade r ≡ true) (room 
     go false f i (inl e) = rw (e, f) (lookup-out m m (omega arith))
     go false f i (inr l) = i l
 
+  -- ---- they are accepted, and one run
+
+  accepts-in : (k : ℕ) → k < 16 → isFilled (flag k) ≡ true → accepts (bodyIn r slots k) ≡ true
+  unfolding accepts bodyRefusal
+  accepts-in k q f =
+      let w = wellMade-within r made k q f in
+      let n = wellMade-few r made in
+      let l = wellMade-short r made k q in
+      let p = length-pieceAt-le slots (r .lengths) k in
+      simp (
+        le-ltb (suc (suc (suc (length (pieceAt slots (r .lengths) k))))) 3 (omega arith),
+        le-ltb 1500 (suc (suc (suc (length (pieceAt slots (r .lengths) k))))) (omega arith),
+        ne-eqb (r .number) 0 (λ e. omega arith),
+        le-ltb 16 (r .number) n,
+        ne-eqb (suc k) 0 (λ e. omega arith),
+        le-ltb (r .number) (suc k) w,
+      )
+
   -- a run of these bodies has the record's count and number
   Headed : List (List ℕ) → Type 0
   Headed [] = Unit {0}
@@ -71,6 +91,26 @@ module _ (r : Collection) (slots : List ℕ) (made : wellMade r ≡ true) (room 
     go : (t : Bool) → Headed (bodiesTo r slots m) → Headed (cond t (bodyIn r slots m ∷ bodiesTo r slots m) (bodiesTo r slots m))
     go true h = (refl, refl)
     go false h = h
+
+  goes : (k : ℕ) (run : List (List ℕ)) → Headed run → lookup run k ≡ empty → cond (continues run (bodyIn r slots k)) (bodyIn r slots k ∷ run) (bodyIn r slots k ∷ []) ≡ bodyIn r slots k ∷ run
+  unfolding continues Headed
+  goes k [] h e = refl
+  goes k (x ∷ xs) h e =
+      let s : suc k - 1 ≡ k = omega arith in
+      rw (eq-eqb (countOf x) (r .count) (h .0), eq-eqb (numberOf x) (r .number) (h .1), s, e) refl
+
+  start-empty : runOf false [] ≡ []
+  unfolding runFrom
+  start-empty = refl
+
+  bodiesTo-run : (m : ℕ) → m ≤ 16 → runOf false (bodiesTo r slots m) ≡ bodiesTo r slots m
+  unfolding bodiesTo
+  bodiesTo-run zero h = start-empty
+  bodiesTo-run (suc m) h = go (isFilled (flag m)) refl (bodiesTo-run m (omega arith)) where
+    go : (t : Bool) → isFilled (flag m) ≡ t → runOf false (bodiesTo r slots m) ≡ bodiesTo r slots m
+        → runOf false (cond t (bodyIn r slots m ∷ bodiesTo r slots m) (bodiesTo r slots m)) ≡ cond t (bodyIn r slots m ∷ bodiesTo r slots m) (bodiesTo r slots m)
+    go true f i = loose-run [] (bodiesTo r slots m) (bodyIn r slots m) ∙ rw (accepts-in m h f, i) (goes m (bodiesTo r slots m) (headed m) (lookup-out m m (omega arith)))
+    go false f i = i
 
   -- where there is none, every slot is empty
   none-filled : (m : ℕ) → m ≤ 16 → bodiesTo r slots m ≡ [] → emptySlots (r .filled) m ≡ m
@@ -108,3 +148,10 @@ rep-any r slots z room = go (wellMade r) refl where
   go : (t : Bool) → wellMade r ≡ t → Rep (r .strict) (cond t (bodiesTo r slots 16) []) r slots
   go true w = rep-made r slots w room z
   go false w = rep-idle r slots room w
+
+pub standsFor-run : (r : Collection) (slots : List ℕ) → 24000 ≤ length slots → runOf false (standsFor r slots) ≡ standsFor r slots
+unfolding standsFor runFrom
+standsFor-run r slots room = go (wellMade r) refl where
+  go : (t : Bool) → wellMade r ≡ t → runOf false (cond t (bodiesTo r slots 16) []) ≡ cond t (bodiesTo r slots 16) []
+  go true w = bodiesTo-run r slots w room 16 (omega arith)
+  go false w = refl

@@ -8,16 +8,15 @@
 --   lengthsTo-at       the length of a piece                     judged-same      families that agree are judged alike
 -- Trusts: nothing.
 use Prim.Native.Nat.{ℕ, zero, suc, _+_, _<_, _≤_}
-use mathlib.Core.Path.{_≡_, refl, sym, _∙_}
-use mathlib.Core.Bool.{Bool, true, false, cond}
-use mathlib.Core.List.{List, [], _∷_, _++_}
+use mathlib.Core.Path.{_≡_, refl, _∙_}
+use mathlib.Core.Bool.{Bool, true}
+use mathlib.Core.List.{List, [], _++_}
 use lib.ListN.{length, getD, length-append, List·getD-append}
 use lib.Seq.{getD-append-seam}
 use mathlib.Core.Logic.{⊎-elim}
 use native.Mathlib.Omega.{arith}
 use native.Mathlib.Nat.{eq-or-lt-of-le, le-of-suc-le-suc}
 use Rattle.collector_demands.specs.Runs.{Slot, empty, full, isFull, bytesOf, lookup, missing, message, lengthsTo, judged}
-use Rattle.cuts.specs.Cuts.{cutsIn}
 
 -- two families of slots that agree below n miss as many
 pub missing-same : (f g : ℕ → Slot) (n : ℕ) → ((j : ℕ) → j < n → f j ≡ g j) → missing f n ≡ missing g n

@@ -17,7 +17,7 @@ use lib.Dec.{eqb}
 use Rattle.wire.specs.Bytes.{pasted}
 use Rattle.compare.specs.Compare.{sameBytes}
 use Rattle.compare.proofs.Laws.{sameBytes-true}
-use Rattle.collector.specs.Answers.{refused, again, waiting, complete, dropped, lentOf}
+use Rattle.collector.specs.Answers.{refused, waiting, complete, lentOf}
 use Rattle.collection.specs.Record.{emptyCollection, isStrict}
 use Rattle.held.specs.Held.{isFilled, emptySlots, soundTo, wellMade, isOf}
 use Rattle.joining.specs.Pieces.{joined}

@@ -5,24 +5,34 @@
 --   mayIn-free       behind a place where no element stands nothing is judged     mayCut-past      nor past the message's end
 -- Trusts: nothing.
 use Prim.Native.Nat.{ℕ, zero, suc, _+_, _-_, _≤_, _<_}
-use mathlib.Core.Path.{_≡_, refl, sym, ap, _∙_}
-use mathlib.Core.Bool.{Bool, true, false, cond, _||_, or-true}
+use mathlib.Core.Path.{_≡_, refl, sym}
+use mathlib.Core.Bool.{true, false, _||_, or-true}
 use mathlib.Core.List.{List}
 use native.Mathlib.Omega.{arith}
 use borrow.Author.Tests.{eq-eqb, ne-eqb, lt-ltb, le-ltb}
-use lib.ListN.{length, getD}
+use lib.ListN.{length}
 use lib.Dec.{eqb, ltb}
 use Rattle.elements.specs.Elements.{headAt}
 use Rattle.elements.specs.declared.Head.{Head}
 use Rattle.elements.specs.declared.Head.the-variants.{End, Refused, Value}
-use Rattle.elements.proofs.Laws.{headAt-ends, headAt-starts, headAt-fits}
-use Rattle.children.specs.Rows.{Row, done, bad, item, rowWith, rowIn}
-use Rattle.children.proofs.Laws.{rowIn-rule, rowIn-stop}
+use Rattle.elements.proofs.Laws.{headAt-ends, headAt-fits}
+use Rattle.children.specs.Rows.{Row, item, rowWith, rowIn}
+use Rattle.children.proofs.Laws.{rowIn-rule}
 use Rattle.cuts.specs.Cuts.{startsAt, judgedTo, mayIn, mayCut}
 
 pub mayIn-item : (at len : ℕ) (rest : Row) (end c : ℕ) → at < c → mayIn (item at len rest) end c ≡ mayIn rest end c
 unfolding mayIn startsAt judgedTo
 mayIn-item at len rest end c l = simp (ne-eqb at c (λ e. omega arith))
+
+pub mayIn-here : (msg : List ℕ) (at : ℕ) → at ≤ length msg → mayIn (rowIn msg at (length msg)) (length msg) at ≡ true
+unfolding mayIn startsAt
+mayIn-here msg at fits = rw (rowIn-rule msg at (length msg)) (on (headAt msg at (length msg)) refl)
+  where
+    on : (h : Head) → headAt msg at (length msg) ≡ h
+        → (startsAt (rowWith (λ next. rowIn msg next (length msg)) at h) at || (eqb at (length msg) || ltb (judgedTo (rowWith (λ next. rowIn msg next (length msg)) at h) (length msg)) at)) ≡ true
+    on End e = let f = headAt-ends msg at (length msg) e in simp (eq-eqb at (length msg) (omega arith))
+    on (Refused n) e = simp (eq-eqb at at refl)
+    on (Value len) e = simp (eq-eqb at at refl)
 
 -- all elements of the row start from `at` on, and the judging ends there or later, and in the message
 pub record From (at end : ℕ) (row : Row) : Type 0 where
@@ -54,16 +64,6 @@ mayIn-before msg at c l fits =
     let f = from-rest (length msg - at) msg at (omega arith) fits in
     let j = f .judged in
     simp (f .none c l, ne-eqb c (length msg) (λ e. omega arith), le-ltb (judgedTo (rowIn msg at (length msg)) (length msg)) c (omega arith))
-
-pub mayIn-here : (msg : List ℕ) (at : ℕ) → at ≤ length msg → mayIn (rowIn msg at (length msg)) (length msg) at ≡ true
-unfolding mayIn startsAt
-mayIn-here msg at fits = rw (rowIn-rule msg at (length msg)) (on (headAt msg at (length msg)) refl)
-  where
-    on : (h : Head) → headAt msg at (length msg) ≡ h
-        → (startsAt (rowWith (λ next. rowIn msg next (length msg)) at h) at || (eqb at (length msg) || ltb (judgedTo (rowWith (λ next. rowIn msg next (length msg)) at h) (length msg)) at)) ≡ true
-    on End e = let f = headAt-ends msg at (length msg) e in simp (eq-eqb at (length msg) (omega arith))
-    on (Refused n) e = simp (eq-eqb at at refl)
-    on (Value len) e = simp (eq-eqb at at refl)
 
 -- where no element stands, the message ends or its head is faulty: later cuts are not judged
 pub mayIn-free : (msg : List ℕ) (at c : ℕ) {h : Head} → h ≡ headAt msg at (length msg) → ((len : ℕ) → h ≡ Value len → ⊥) → at < c → mayIn (rowIn msg at (length msg)) (length msg) c ≡ true

@@ -7,9 +7,9 @@
 -- Trusts: nothing.
 use Prim.Native.Nat.{ℕ, zero, suc, _+_, _-_, _≤_, _<_}
 use mathlib.Core.Path.{_≡_, refl, sym, ap, _∙_}
-use mathlib.Core.Bool.{Bool, true, false, cond, _||_}
+use mathlib.Core.Bool.{Bool, true, false}
 use mathlib.Core.List.{List}
-use mathlib.Core.Logic.{_⊎_, inl, inr, ⊎-elim}
+use mathlib.Core.Logic.{_⊎_, inl, inr}
 use native.Mathlib.Omega.{arith}
 use borrow.Author.Tests.{eqb-true, eqb-false, ltb-true, ltb-false}
 use lib.ListN.{length}
@@ -19,9 +19,9 @@ use Rattle.elements.specs.Stood.{stood}
 use Rattle.elements.specs.declared.Head.{Head}
 use Rattle.elements.specs.declared.Head.the-variants.{End, Refused, Value}
 use Rattle.elements.proofs.Laws.{headAt-ends, headAt-fits}
-use Rattle.children.specs.Rows.{rowWith, rowIn}
-use Rattle.children.proofs.Laws.{rowIn-rule, rowIn-item}
-use Rattle.cuts.specs.Cuts.{startsAt, judgedTo, mayIn, mayCut}
+use Rattle.children.specs.Rows.{rowIn}
+use Rattle.children.proofs.Laws.{rowIn-item}
+use Rattle.cuts.specs.Cuts.{mayIn, mayCut}
 use Rattle.cuts.specs.Walks.{Reached, first, next, FaultBefore}
 use Rattle.cuts.proofs.Laws.{mayIn-item, mayIn-before, mayIn-here, mayIn-free}
 

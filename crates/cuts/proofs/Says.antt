@@ -5,14 +5,14 @@
 --   cutsIn-first     badAt: the first cut that may not be
 -- Trusts: nothing.
 use Prim.Native.Nat.{ℕ, zero, suc, _+_, _-_, _≤_, _<_}
-use mathlib.Core.Path.{_≡_, refl, sym, ap, _∙_}
+use mathlib.Core.Path.{_≡_, refl}
 use mathlib.Core.Bool.{Bool, true, false, cond}
 use mathlib.Core.List.{List}
-use mathlib.Core.Logic.{_⊎_, inl, inr, ⊎-elim}
+use mathlib.Core.Logic.{_⊎_, ⊎-elim}
 use native.Mathlib.Omega.{arith}
 use native.Mathlib.Nat.{eq-or-lt-of-le}
-use lib.ListN.{length, getD}
-use Rattle.cuts.specs.Cuts.{Ruling, allGood, badAt, mayIn, mayCut, sumTo, cutsFrom, cutsIn}
+use lib.ListN.{getD}
+use Rattle.cuts.specs.Cuts.{Ruling, allGood, badAt, mayCut, sumTo, cutsFrom, cutsIn}
 use Rattle.cuts.specs.Walks.{FirstBad}
 
 pub sumTo-same : (l m : List ℕ) (n : ℕ) → ((j : ℕ) → j < n → getD l j 0 ≡ getD m j 0) → sumTo l n ≡ sumTo m n

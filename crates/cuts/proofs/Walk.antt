@@ -5,9 +5,9 @@
 --   walk-end, walk-past      no cut is left; no piece has bytes behind the sixteenth
 --   walk-beyond, walk-free, walk-bad, walk-next     the next cut is past the message's end; behind a place where no element stands; inside an element; good
 -- Trusts: nothing.
-use Prim.Native.Nat.{ℕ, zero, suc, _+_, _-_, _≤_, _<_}
-use mathlib.Core.Path.{_≡_, refl, sym, ap, _∙_}
-use mathlib.Core.Bool.{true, false}
+use Prim.Native.Nat.{ℕ, suc, _+_, _-_, _≤_, _<_}
+use mathlib.Core.Path.{_≡_, refl, sym, _∙_}
+use mathlib.Core.Bool.{true}
 use mathlib.Core.List.{List}
 use native.Mathlib.Omega.{arith}
 use native.Mathlib.Numerals.{add-one}

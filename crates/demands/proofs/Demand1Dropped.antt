@@ -6,7 +6,7 @@
 --   lentStep-dropped       the same with the message lent as a part: no part is lent
 --
 -- Trusts: nothing.
-use Prim.Native.Nat.{ℕ, suc, _*_, _-_, _≤_, _<_}
+use Prim.Native.Nat.{ℕ, _*_, _-_, _≤_}
 use mathlib.Core.Path.{_≡_, refl, sym, ap, subst, _∙_}
 use mathlib.Core.Bool.{Bool, true, false, cond, not}
 use mathlib.Core.List.{List, [], _++_}
@@ -27,6 +27,7 @@ use Rattle.relation.specs.Relation.{goesOn, repeats, relationTo}
 use Rattle.collector.specs.Answers.{again, waiting, complete, dropped, ownOf, joinedOf}
 use Rattle.collector.specs.Step.{relationOf, baseOf, noted, After, after, settledBy, settled, finished, accepted, collectStep}
 use Rattle.collector_demands.proofs.Last.{complete-number}
+use Rattle.collector_demands.proofs.Setting.{base-setting}
 use Rattle.lending.specs.Lent.{lentStep}
 use Rattle.demands.proofs.Demand1.{answered}
 
@@ -86,13 +87,6 @@ base-loose how r body k len = go (eqb how goesOn) where
   go true = refl
   go false = refl
 
-base-strict : (how : ℕ) (r : Collection) (body : List ℕ) → baseOf how r body .strict ≡ r .strict
-unfolding baseOf
-base-strict how r body = go (eqb how goesOn) where
-  go : (t : Bool) → cond t r (emptyCollection (r .strict) (countOf body) (numberOf body)) .strict ≡ r .strict
-  go true = refl
-  go false = refl
-
 accepted-dropped : (r : Collection) (slots join body : List ℕ) (off : ℕ) → accepted r slots join body .answer ≡ dropped off
     → Dropping r off (accepted r slots join body) (accepted (loose r) slots join body)
 unfolding accepted
@@ -109,7 +103,7 @@ accepted-dropped r slots join body off =
       go true e = absurd (let z : _≡_ {A = ℕ} 0 1 = cc in omega arith)
       go false e =
           let d = finished-dropped next put join (length body - 3) off e in
-          let s = base-strict (relationOf r slots body) r body in
+          let s = base-setting (relationOf r slots body) r body in
           let L = finished (loose next) put join (length body - 3) in
           record {
             strict = ap (λ x. not (eqb x 0)) (sym s) ∙ d .strict;

@@ -18,9 +18,10 @@ finish-requires c κs =
 
 returns : tie.Need-returns
 returns c =
-    let a = c .before .before .before .before .before .before .before .before .before .before .before .before .args in
+    let f = c .before .before .before in
+    let a = f .before .before .before .before .before .before .before .before .before .before .args in
     let len = length (now (a .piece)) in
-    c .before .before .finish .ensures ∙ ap (λ (l : List ℕ). finished (noted (a .from) (a .k) len) l (now (a .join)) len) (c .before .before .before .before .before .before .before .copy-at .ensures)
+    rw (c .leave .ensures) (f .finish .ensures) ∙ ap (λ (l : List ℕ). finished (noted (a .from) (a .k) len) l (now (a .join)) len) (f .before .before .before .before .before .copy-at .ensures)
 
 pub accept-spec : {M : Type 1} → statement M
 accept-spec =
@@ -33,6 +34,7 @@ accept-spec =
     (λ c. search needs)
     (λ c κs. search needs)
     finish-requires
+    (λ c κs. search needs)
     (λ c. search needs)
     (λ c. search needs)
     returns)

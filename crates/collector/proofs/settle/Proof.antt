@@ -20,9 +20,9 @@ returns-2 c =
 -- dropped
 returns-3 : tie.Need-returns-3
 returns-3 c =
-    let m = c .before .before in
+    let m = c .before in
     let e = m .before .before .before .before .before .before in
-    rw (c .empty-collection .ensures) (settled-bad _ _ _ (e .before .before .before .pre) (e .if1 .left) (m .before .before .judge-cuts .ensures) (m .cut .given .1))
+    settled-bad _ _ _ (e .before .before .before .pre) (e .if1 .left) (m .before .before .judge-cuts .ensures) (m .cut .given .1)
 
 pub settle-spec : {M : Type 1} → statement M
 settle-spec =
@@ -34,6 +34,5 @@ settle-spec =
     (λ c κs. search needs)
     (λ c. search needs)
     (λ c. search needs)
-    (λ c κs. search needs)
     returns-2
     returns-3)

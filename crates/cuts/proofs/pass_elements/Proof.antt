@@ -1,10 +1,8 @@
 -- `cuts::pass_elements` gives `Passed`. The loop keeps `Passing`; every turn passes an element, and what falls is the bytes left before the cut.
 -- Trusts: nothing.
 use borrow.Author.Needs.{needs}
-use Prim.Native.Nat.{ℕ, _+_, _-_, _≤_}
-use mathlib.Core.Path.{_≡_, refl}
+use Prim.Native.Nat.{_+_, _-_}
 use native.Mathlib.Omega.{arith}
-use lib.ListN.{length}
 use Rattle.cuts.proofs.Passing.{Passing, passing-start, passing-near, passing-long, passing-255, passing-on}
 use Rattle.cuts.proofs.pass_elements.Statement.{statement}
 use Rattle.cuts.proofs.pass_elements.Tie as tie
