@@ -109,15 +109,24 @@ fn leave(answer: Answer, next: Collection) -> Collection
     collection::empty_collection(next.strict)
 }
 
-// Notes the piece in `from` and stores it in slot `k`; the answer, and the record after it.
-fn accept(from: Collection, slots: &mut [u8], join: &mut [u8], k: usize, piece: &[u8]) -> Outcome
+// Notes the piece in the record that it goes on with or begins and stores it in slot `k`; the answer, and the record after it.
+fn accept(
+    how: u8,
+    held: Collection,
+    count: u8,
+    number: u8,
+    slots: &mut [u8],
+    join: &mut [u8],
+    k: usize,
+    piece: &[u8],
+) -> Outcome
     requires { ⌜ (k < 16) × (length (now piece) ≤ 1497) ⌝ }
-    requires { ⌜ (from .number ≤ 16) × (24000 ≤ length (now join)) ⌝ }
-    requires { ⌜ ((k : ℕ) → k < 16 → getD (from .lengths) k 0 ≤ 1497) ⌝ }
-    ensures { λ r. ⌜ record { answer = said (r .answer); held = r .held; slots = now (slots .exit); join = now (join .exit) } ≡ storedStep from (now (slots .entry)) (now (join .entry)) k (now (piece .entry)) ⌝ }
+    requires { ⌜ (begun how held count number .number ≤ 16) × (24000 ≤ length (now join)) ⌝ }
+    requires { ⌜ ((k : ℕ) → k < 16 → getD (begun how held count number .lengths) k 0 ≤ 1497) ⌝ }
+    ensures { λ r. ⌜ record { answer = said (r .answer); held = r .held; slots = now (slots .exit); join = now (join .exit) } ≡ storedStep (begun how held count number) (now (slots .entry)) (now (join .entry)) k (now (piece .entry)) ⌝ }
 {
     let len = piece.len();
-    let mut next = from;
+    let mut next = base(how, held, count, number);
     next.filled[k] = 1;
     next.lengths[k] = len as u16;
     let at = k * joining::SLOT_BYTES;
@@ -152,6 +161,5 @@ pub fn collect(held: Collection, slots: &mut [u8], join: &mut [u8], body: &[u8])
             held,
         };
     }
-    let from = base(how, held, count, number);
-    accept(from, slots, join, k, piece)
+    accept(how, held, count, number, slots, join, k, piece)
 }

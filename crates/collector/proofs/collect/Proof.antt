@@ -1,7 +1,7 @@
 -- `collector::collect` gives `collectStep`: what its callees ensure is put together by the laws of LawsStep, one for each answer.
 -- Trusts: nothing.
 use borrow.Author.Needs.{needs}
-use mathlib.Core.Path.{_≡_, sym, ap, _∙_}
+use mathlib.Core.Path.{_≡_, refl, sym, ap, _∙_}
 use mathlib.Core.List.{List}
 use native.Mathlib.Omega.{arith}
 use Prim.Native.Nat.{ℕ, _≤_}
@@ -12,7 +12,7 @@ use Rattle.body_tests.specs.Refusals.{Fits, countOf, numberOf, slotOf, refusalO
 use Rattle.body_tests.proofs.Laws.{refusalOf-room, fits-of}
 use Rattle.relation.specs.Relation.{relationTo}
 use Rattle.collector.specs.Step.{relationOf}
-use Rattle.collector.specs.Duties.{storedStep}
+use Rattle.collector.specs.Duties.{begun, storedStep}
 use Rattle.collector.proofs.LawsStep.{step-refused, step-again, step-stored, from-number, from-short}
 use Rattle.collector.proofs.collect.Statement.{statement}
 use Rattle.collector.proofs.collect.Tie as tie
@@ -52,26 +52,25 @@ returns-2 c = step-again _ _ _ _ (ok (Passed (c .before))) _ (how-is (c .before)
 
 accept-requires : tie.Need-accept-requires
 accept-requires c κs =
-    let r = c .before .before .before .before in
+    let r = c .before .before .before in
     let s = Passed r in
     let a = Entry s .args in
     let b = now (a .body) in
-    let number = from-number (a .held) (now (a .slots)) (now (a .join)) b (ok s) _ (how-is r) (c .before .before .before .if2 .left) _ (c .before .before .base .ensures) in
-    let short = from-short (a .held) (now (a .slots)) (now (a .join)) b (ok s) _ (how-is r) (c .before .before .before .if2 .left) _ (c .before .before .base .ensures) in
+    let number = from-number (a .held) (now (a .slots)) (now (a .join)) b (ok s) _ (how-is r) (c .before .before .if2 .left) _ refl in
+    let short = from-short (a .held) (now (a .slots)) (now (a .join)) b (ok s) _ (how-is r) (c .before .before .if2 .left) _ refl in
     let long = ap length (rest-all b 3) ∙ length-drop 3 b in
     ((omega (arith, fits s), omega (arith, fits s, long)), ((omega (arith, fits s, number), room s), short))
 
 returns-3 : tie.Need-returns-3
 returns-3 c =
-    let r = c .before .before .before .before .before .before .before .before .before in
+    let r = c .before .before .before .before .before .before .before .before in
     let s = Passed r in
     let a = Entry s .args in
     let b = now (a .body) in
-    let from = c .before .before .before .before .before .before .before .base .result in
+    let from = begun (r .relate .result) (a .held) (countOf b) (numberOf b) in
     c .before .before .before .before .accept .ensures
     ∙ ap (λ (l : List ℕ). storedStep from (now (a .slots)) (now (a .join)) (slotOf b) l) (rest-all b 3)
-    ∙ step-stored (a .held) (now (a .slots)) (now (a .join)) b (ok s) _ (how-is r) (c .before .before .before .before .before .before .before .before .if2 .left) from
-    (c .before .before .before .before .before .before .before .base .ensures)
+    ∙ step-stored (a .held) (now (a .slots)) (now (a .join)) b (ok s) _ (how-is r) (c .before .before .before .before .before .before .before .if2 .left) from refl
 
 pub collect-spec : {M : Type 1} → statement M
 collect-spec =
@@ -90,7 +89,6 @@ collect-spec =
     (λ c κs. search needs)
     (λ c. search needs)
     returns-2
-    (λ c κs. search needs)
     accept-requires
     (λ c. search needs)
     (λ c. search needs)
