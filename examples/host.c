@@ -11,7 +11,9 @@
  *   T start 0|1 (may the board transmit?)    T locked    T empty (the scan found nothing)    T tick
  *   T up UCID    T lost (upstream)    T enable    T disable    T hunt    T downlost
  *   T body HEX   T frame HEX
- * and one line without a clock, `client KIND VALUE`: whose tunnel is wanted; KIND is a number of dsg_client_kind.
+ * and two lines without a clock:
+ *   client KIND VALUE (whose tunnel is wanted; KIND is a number of dsg_client_kind)
+ *   strict 0|1 (are messages refused that were cut inside an element? At first they are not; what was collected is forgotten)
  */
 #include <ctype.h>
 #include <stdio.h>
@@ -25,9 +27,10 @@
 /* What the board keeps. The library owns none of it. */
 struct board {
     struct dsg_modem modem;
-    struct dsg_collection held; /* with its two buffers */
+    struct dsg_collection held; /* with its two buffers, */
     uint8_t slots[DSG_BUFFER_BYTES];
     uint8_t join[DSG_BUFFER_BYTES];
+    uint16_t strict;        /* and the setting that it is emptied with: 0 loose, else strict */
     struct dsg_table table; /* the last one that was accepted, */
     bool has_table;         /* if there was one */
     uint8_t kind;           /* the client, */
@@ -44,6 +47,7 @@ static struct board the_board;
 
 static const char *const state_words[] = {"idle", "scanning", "checking", "one-way", "ranging", "two-way", "resting"};
 
+/* By the refusal's number; one that no function gives has no words. */
 static const char *const refusal_words[] = {
     "nothing",
     "a buffer of the board is too short",
@@ -64,6 +68,7 @@ static const char *const refusal_words[] = {
     "a frame that is too short or too long",
     "no rule fits the client",
     "the clock went back",
+    [DSG_REFUSED_CUT] = "cut inside an element",
 };
 
 /* ---- the log ------------------------------------------------------------------------------------------------ */
@@ -76,7 +81,9 @@ static void stamp(uint32_t clock)
 
 static const char *words_of(uint32_t refusal)
 {
-    return refusal < sizeof refusal_words / sizeof refusal_words[0] ? refusal_words[refusal] : "unknown";
+    const char *words = refusal < sizeof refusal_words / sizeof refusal_words[0] ? refusal_words[refusal] : NULL;
+
+    return words ? words : "unknown";
 }
 
 /* A number and what it counts: "1 rule", "2 rules". */
@@ -91,7 +98,7 @@ static void print_count(const char *before, unsigned count, const char *what)
 static void begin(struct board *b)
 {
     dsg_empty_modem(&b->modem);
-    dsg_empty_collection(&b->held);
+    dsg_empty_collection(&b->held, b->strict);
     dsg_empty_table(&b->table);
     b->kind = DSG_CLIENT_BROADCAST_ALL;
     dsg_prepare(&b->tunnel, &b->table, b->kind, b->value, 0, 0);
@@ -148,7 +155,7 @@ static bool notify(struct board *b, uint32_t clock, uint8_t event, uint16_t a, c
     /* Into Scanning: what was collected belongs to the channel that is left. Kept, its message would be a repeat for ever
      * on the next channel, and no table would be accepted there. */
     if (b->modem.state == DSG_SCANNING && (before.state != DSG_SCANNING || event == DSG_START)) {
-        dsg_empty_collection(&b->held);
+        dsg_empty_collection(&b->held, b->strict);
     }
     if (b->modem.hasucid != before.hasucid || b->modem.ucid != before.ucid) prepare(b, clock);
     return true;
@@ -191,8 +198,12 @@ static void take_body(struct board *b, uint32_t clock, const uint8_t *body, size
         printf("\n");
         b->has_table = true;
         /* an event that is refused is lost on the modem: the next copy of the message must not be a repeat */
-        if (!notify(b, clock, DSG_TABLE_ACCEPTED, 0, &b->table.timers)) dsg_empty_collection(&b->held);
+        if (!notify(b, clock, DSG_TABLE_ACCEPTED, 0, &b->table.timers)) dsg_empty_collection(&b->held, b->strict);
         prepare(b, clock);
+        break;
+    case DSG_RECEIVE_DROPPED: /* nothing is collected now: the next piece, of this message too, starts anew */
+        printf("refused %lu at byte %lu: %s, all pieces dropped\n", (unsigned long)r.number, (unsigned long)r.offset,
+               words_of(r.number));
         break;
     default:
         printf("refused %lu at byte %lu: %s\n", (unsigned long)r.number, (unsigned long)r.offset, words_of(r.number));
@@ -244,6 +255,15 @@ static void take_client(struct board *b, uint8_t kind, uint64_t value)
     b->kind = kind;
     b->value = value;
     prepare(b, b->clock);
+}
+
+/* Another setting. It goes with an empty record: a message that is half here would be judged by what it did not begin with. */
+static void take_setting(struct board *b, uint16_t strict)
+{
+    stamp(b->clock);
+    printf("messages cut inside an element are %s\n", strict ? "refused" : "taken");
+    b->strict = strict;
+    dsg_empty_collection(&b->held, b->strict);
 }
 
 /* ---- the script --------------------------------------------------------------------------------------------- */
@@ -357,6 +377,16 @@ static bool play_client(struct board *b, const char *rest)
     return true;
 }
 
+/* A setting, likewise. */
+static bool play_setting(struct board *b, const char *rest)
+{
+    uint64_t strict;
+
+    if (!at_end(read_number(rest, 1, &strict))) return false;
+    take_setting(b, (uint16_t)strict);
+    return true;
+}
+
 /* An event, likewise. */
 static bool play_event(struct board *b, uint32_t clock, const char *word, const char *rest)
 {
@@ -399,6 +429,7 @@ static bool play(struct board *b, const char *line)
     if (at_end(line)) return true;
     rest = read_word(line, word, sizeof word);
     if (rest && strcmp(word, "client") == 0) return play_client(b, rest);
+    if (rest && strcmp(word, "strict") == 0) return play_setting(b, rest);
     rest = read_number(line, UINT32_MAX, &clock);
     if (rest) rest = read_word(rest, word, sizeof word);
     if (!rest) return false;

@@ -11,6 +11,8 @@
 #include "dsg.h"
 
 /* The same functions, declared with arguments of the whole register. */
+struct dsg_collection *wide_empty_collection(struct dsg_collection *held,
+                                             uint64_t strict) __asm__("dsg_empty_collection");
 struct dsg_choice wide_choose(const struct dsg_table *table, uint64_t kind, uint64_t value, uint64_t known,
                               uint64_t ucid) __asm__("dsg_choose");
 struct dsg_verdict *wide_judge(struct dsg_verdict *answer, const struct dsg_table *table, uint64_t kind, uint64_t value,
@@ -71,6 +73,23 @@ static void try_client(uint8_t kind, uint8_t known, uint8_t ucid)
     count(dsg_judge_prepared(&w, &u, frame, sizeof frame) == &w && same_verdict(&v, &w));
 }
 
+/* Every setting of a collection, over records that held different bytes. */
+static void try_settings(void)
+{
+    struct dsg_collection a, b;
+    uint32_t strict;
+    bool placed;
+
+    for (strict = 0; strict <= UINT16_MAX; strict++) {
+        memset(&a, 0, sizeof a);
+        memset(&b, 0xff, sizeof b);
+        placed = dsg_empty_collection(&a, (uint16_t)strict) == &a;
+        placed = wide_empty_collection(&b, WIDE16(strict)) == &b && placed;
+        /* a collection has no bytes between its fields */
+        count(placed && a.strict == strict && memcmp(&a, &b, sizeof a) == 0);
+    }
+}
+
 /* The same events for two records. */
 static void try_events(void)
 {
@@ -109,6 +128,7 @@ int main(void)
     for (kind = 0; kind < 8; kind++)
         for (known = 0; known < 3; known++)
             for (ucid = 0; ucid < 8; ucid++) try_client((uint8_t)kind, (uint8_t)known, (uint8_t)ucid);
+    try_settings();
     try_events();
     try_listing();
     printf("%lu calls with anything in the upper bits of their registers, %lu differ\n", calls, differ);

@@ -41,7 +41,7 @@ static const uint8_t frame[] = {0x01, 0x00, 0x5e, 0x06, 0x06, 0x06, 0x02, 0x00, 
 
 static void call_nothing(void) {}
 static void call_empty_table(void) { dsg_empty_table(&table); }
-static void call_empty_collection(void) { dsg_empty_collection(&held); }
+static void call_empty_collection(void) { dsg_empty_collection(&held, 1); }
 static void call_empty_modem(void) { dsg_empty_modem(&modem); }
 static void call_read(void) { dsg_read(&table, body + 3, sizeof body - 3); }
 static void call_choose(void) { dsg_choose(&table, DSG_CLIENT_APPLICATION, 42, 1, 4); }
@@ -53,27 +53,28 @@ static void call_forwards(void) { dsg_forwards(&modem); }
 static void call_list_table(void) { dsg_list_table(&table, 8, out, sizeof out); }
 static void call_list_body(void) { dsg_list_body(body, sizeof body, out, sizeof out); }
 
-/* A body of two pieces, so that there is something to join. */
+/* A body of two pieces, so that there is something to join, cut behind the rule, so that a strict collection takes it. */
 static void collect_half(int receive, uint8_t piece)
 {
     uint8_t half[64] = {9, 2, 0};
-    size_t bytes = piece == 1 ? 20 : sizeof body - 3 - 20;
+    size_t cut = 2 + (size_t)body[4];
+    size_t bytes = piece == 1 ? cut : sizeof body - 3 - cut;
     half[2] = piece;
-    memcpy(half + 3, body + (piece == 1 ? 3 : 23), bytes);
+    memcpy(half + 3, body + 3 + (piece == 1 ? 0 : cut), bytes);
     if (receive) dsg_receive(&received, &held, &table, slots, sizeof slots, join, sizeof join, half, bytes + 3);
     else dsg_collect(&collected, &held, slots, sizeof slots, join, sizeof join, half, bytes + 3);
 }
 
 static void call_collect(void)
 {
-    dsg_empty_collection(&held);
+    dsg_empty_collection(&held, 1);
     collect_half(0, 2);
     collect_half(0, 1);
 }
 
 static void call_receive(void)
 {
-    dsg_empty_collection(&held);
+    dsg_empty_collection(&held, 1);
     collect_half(1, 2);
     collect_half(1, 1);
 }

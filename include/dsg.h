@@ -19,8 +19,8 @@
  *     asserted below;
  *   - a record or buffer that is lent was written once, with whatever bytes; one that is only written (an answer, the record
  *     of dsg_empty_.., the tunnel of dsg_prepare) need not be. Of records of nothing but zeros a collection has nothing
- *     collected, a modem counts as Idle and in a tunnel no rule fits; a table has timers of 0, which is not the table of
- *     the empty message;
+ *     collected and is loose, a modem counts as Idle and in a tunnel no rule fits; a table has timers of 0, which is not the
+ *     table of the empty message;
  *   - what a function may write overlaps nothing else that is lent to the same call;
  *   - nobody else (a thread, an interrupt, DMA) writes what is lent while the call runs, nor reads what it may write;
  *   - the stack has room for the call: the numbers are below.
@@ -28,15 +28,16 @@
  * calls could have made counts as nothing collected (collection) or as Idle (modem), a count above its limit is read
  * as the limit (table, tunnel), and a number that names no event is an event that changes nothing by itself.
  *
- * A refusal is a number, DSG_REFUSED_..: document 01's, and one of our own above them. After a refusal every record
- * and every buffer that was lent holds what it held before (where dsg_receive takes a body whose message is then
- * refused, the pieces stay collected and the table is as before). Fields of an answer that its kind does not use are 0.
- * The bytes between the fields of a record mean nothing and may change at any call that is lent the record to write:
- * compare records field by field.
+ * A refusal is a number, DSG_REFUSED_..: document 01's, 21 of document 02, and one of our own above them. After a refusal
+ * every record and every buffer that was lent holds what it held before, but for two: where dsg_receive takes a body whose
+ * message is then refused, the pieces stay collected and the table is as before; and 21 drops what was collected (kind 5):
+ * the collection is empty and keeps its setting, both buffers hold what they would hold had the message been complete, and
+ * the table is as before. Fields of an answer that its kind does not use are 0. The bytes between the fields of a record
+ * mean nothing and may change at any call that is lent the record to write: compare records field by field.
  *
  * Memory that a board needs: the records below and two buffers of DSG_BUFFER_BYTES, some 55,000 bytes. Stack, as
  * examples/stack.c measures it on x86-64 and on Arm: dsg_list_body 140,000 bytes, dsg_receive 92,100, dsg_read 65,200,
- * dsg_judge 26,200, dsg_prepare 21,400, dsg_list_table 20,600, dsg_empty_table 19,700, dsg_choose 12,600, dsg_collect 1,700;
+ * dsg_judge 26,200, dsg_prepare 21,400, dsg_list_table 20,600, dsg_empty_table 19,700, dsg_choose 12,600, dsg_collect 1,800;
  * what runs for each frame and event (dsg_judge_prepared, dsg_event, dsg_transmits, dsg_forwards) under 200. Of the C library
  * only memcpy, memmove and memset are called.
  */
@@ -98,7 +99,8 @@ enum dsg_refusal {
     DSG_REFUSED_FRAME = 16,         /* frame under DSG_FRAME_LEAST or over DSG_FRAME_MOST */
     DSG_REFUSED_NO_RULE = 17,       /* no rule fits the client */
     DSG_REFUSED_CLOCK_BACK = 18,    /* clock went back */
-    DSG_REFUSED_SHORT_LISTING = 100 /* a buffer for a listing under DSG_LISTING_BYTES (not document 01's) */
+    DSG_REFUSED_CUT = 21,           /* pieces of a strict collection were cut inside an element (document 02) */
+    DSG_REFUSED_SHORT_LISTING = 100 /* a buffer for a listing under DSG_LISTING_BYTES (of our own) */
 };
 
 /* ---- records that the host owns and lends ------------------------------------------------------------------- */
@@ -166,12 +168,17 @@ struct dsg_table {
     struct dsg_rule rules[32];
 };
 
-/* What is collected: for each slot whether it is filled (1, else 0) and the bytes of its piece. Number 0: nothing. */
+/* What is collected: for each slot whether it is filled (1, else 0) and the bytes of its piece. Number 0: nothing.
+ * The setting: 0 is loose, every other number is strict. Under the strict setting a message is dropped whose pieces were cut
+ * anywhere but between its top-level elements; under the loose one it may be cut anywhere. Every call leaves the setting as it
+ * was lent. Set it only in an empty record, as dsg_empty_collection does: the message that is being collected is judged by the
+ * setting that is lent with its last missing piece. */
 struct dsg_collection {
     uint8_t count;
     uint8_t number;
     uint8_t filled[16];
     uint16_t lengths[16];
+    uint16_t strict;
 };
 
 /* What dsg_prepare gives. A host may copy and keep it; what its fields mean is the library's. Places behind the count are not
@@ -221,9 +228,10 @@ struct dsg_modem {
     uint8_t ucid;
 };
 
-/* Records to begin with: nothing collected, the table of the empty message, an idle modem. Written: the record, all of it.
+/* Records to begin with: nothing collected under a setting (0 loose, else strict), the table of the empty message, an idle modem.
+ * Written: the record, all of it.
  * Definitions: collection/specs/Record emptyCollection, table/specs/Table emptyTable, modem_record/specs/Record emptyModem. */
-struct dsg_collection *dsg_empty_collection(struct dsg_collection *held);
+struct dsg_collection *dsg_empty_collection(struct dsg_collection *held, uint16_t strict);
 struct dsg_table *dsg_empty_table(struct dsg_table *table);
 struct dsg_modem *dsg_empty_modem(struct dsg_modem *modem);
 
@@ -234,7 +242,8 @@ enum dsg_collected_kind {
     DSG_COLLECT_REPEAT = 1,        /* this piece is held already: nothing changed */
     DSG_COLLECT_WAITING = 2,       /* empty: how many slots are empty */
     DSG_COLLECT_COMPLETE_BODY = 3, /* the message is the part of the body at start, of length bytes */
-    DSG_COLLECT_COMPLETE_JOIN = 4  /* the message is the part of the join buffer at start, of length bytes */
+    DSG_COLLECT_COMPLETE_JOIN = 4, /* the message is the part of the join buffer at start, of length bytes */
+    DSG_COLLECT_DROPPED = 5        /* all pieces came, cut inside an element; number: 21, offset: of the first bad cut */
 };
 
 struct dsg_collected {
@@ -243,6 +252,7 @@ struct dsg_collected {
     size_t empty;
     size_t start;
     size_t length;
+    size_t offset;
 };
 
 /* Takes one body.
@@ -252,9 +262,14 @@ struct dsg_collected {
  *   (dsg_empty_collection) on every entry of the modem into Scanning.
  * Complete: start and length name the message's bytes, of the body (kind 3) or of the join buffer as it is after the call (4).
  *   A message is complete once, at its last missing piece; a further copy of a piece is a repeat. In the join buffer it stays
- *   until another message of more pieces than one is complete.
+ *   until another message of more pieces than one is complete or dropped.
+ * Dropped (kind 5): the setting is strict, no piece is missing, and a piece but the last ends where it may not; offset is the first
+ *   such end, as a byte of the joined message. A piece may end where a top-level element starts, at the message's end, and
+ *   anywhere behind the start of the first top-level element that itself gives 6, 7 or 8: only type and length bytes count.
+ *   The record is empty and keeps its setting; slots and join buffer are as they would be at Complete. The next body that is
+ *   not refused starts a run, a copy of this one too. A message in one piece is never dropped.
  * Refused (kind 0): all that was lent holds what it held.
- * Definition: collector/specs/Step collectStep; dsg_pieces/specs/Bodies collectedOf. */
+ * Definition: collector/specs/Step collectStep, cuts/specs/Cuts cutsIn; dsg_pieces/specs/Bodies collectedOf. */
 struct dsg_collected *dsg_collect(struct dsg_collected *answer, struct dsg_collection *held, uint8_t *slots,
                                   size_t slots_length, uint8_t *join, size_t join_length, const uint8_t *body,
                                   size_t body_length);
@@ -271,11 +286,12 @@ struct dsg_read_answer {
 struct dsg_read_answer dsg_read(struct dsg_table *table, const uint8_t *message, size_t length);
 
 enum dsg_received_kind {
-    DSG_RECEIVE_REFUSED = 0,        /* the body was refused; number: 1 to 5 */
-    DSG_RECEIVE_REPEAT = 1,         /* this piece is held already: nothing changed */
-    DSG_RECEIVE_WAITING = 2,        /* empty: how many slots are empty */
-    DSG_RECEIVE_ACCEPTED = 3,       /* the message is complete, and the table is its table */
-    DSG_RECEIVE_MESSAGE_REFUSED = 4 /* the message is complete and was refused; number, offset: as dsg_read's */
+    DSG_RECEIVE_REFUSED = 0,         /* the body was refused; number: 1 to 5 */
+    DSG_RECEIVE_REPEAT = 1,          /* this piece is held already: nothing changed */
+    DSG_RECEIVE_WAITING = 2,         /* empty: how many slots are empty */
+    DSG_RECEIVE_ACCEPTED = 3,        /* the message is complete, and the table is its table */
+    DSG_RECEIVE_MESSAGE_REFUSED = 4, /* the message is complete and was refused; number, offset: as dsg_read's */
+    DSG_RECEIVE_DROPPED = 5          /* all pieces came, cut inside an element; number, offset: as dsg_collect's */
 };
 
 struct dsg_received {
@@ -289,7 +305,7 @@ struct dsg_received {
  * Lent, written: as by these two. A refused body changes nothing. Whatever is answered, the record and both buffers are
  *   exactly those that dsg_collect leaves for this body. So where a message is complete and refused (kind 4) its pieces
  *   stay collected, and a repeat is a repeat; the table holds what it held, and number and offset are those that dsg_read
- *   gives for that message.
+ *   gives for that message. A message that is dropped (kind 5) is not read: the table holds what it held.
  * Definition: receiver/specs/Receive receiveStep; dsg_pieces/specs/Bodies receivedOf. */
 struct dsg_received *dsg_receive(struct dsg_received *answer, struct dsg_collection *held, struct dsg_table *table,
                                  uint8_t *slots, size_t slots_length, uint8_t *join, size_t join_length,
@@ -453,11 +469,12 @@ DSG_AT(dsg_table, channels, 12);
 DSG_AT(dsg_table, classifiers, 140);
 DSG_AT(dsg_table, rules, 912);
 
-DSG_SIZE(dsg_collection, 50);
+DSG_SIZE(dsg_collection, 52);
 DSG_AT(dsg_collection, count, 0);
 DSG_AT(dsg_collection, number, 1);
 DSG_AT(dsg_collection, filled, 2);
 DSG_AT(dsg_collection, lengths, 18);
+DSG_AT(dsg_collection, strict, 50);
 
 DSG_SIZE(dsg_tunnel, 624);
 DSG_AT(dsg_tunnel, address, 0);
@@ -486,12 +503,13 @@ DSG_AT(dsg_modem, permission, 25);
 DSG_AT(dsg_modem, hasucid, 26);
 DSG_AT(dsg_modem, ucid, 27);
 
-DSG_SIZE(dsg_collected, 32);
+DSG_SIZE(dsg_collected, 40);
 DSG_AT(dsg_collected, kind, 0);
 DSG_AT(dsg_collected, number, 4);
 DSG_AT(dsg_collected, empty, 8);
 DSG_AT(dsg_collected, start, 16);
 DSG_AT(dsg_collected, length, 24);
+DSG_AT(dsg_collected, offset, 32);
 
 DSG_SIZE(dsg_read_answer, 16);
 DSG_AT(dsg_read_answer, number, 0);

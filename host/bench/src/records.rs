@@ -10,8 +10,8 @@ const STATES: [&str; 7] = [
     "idle", "scanning", "checking", "oneway", "ranging", "twoway", "resting",
 ];
 
-/// `COUNT NUMBER FLAGS LENS`.
-pub fn collection(words: &[&str]) -> Option<Collection> {
+/// `COUNT NUMBER FLAGS LENS`, and the setting, which the words do not carry.
+pub fn collection(words: &[&str], strict: u16) -> Option<Collection> {
     let [count, number, flags, lengths] = words else {
         return None;
     };
@@ -21,10 +21,11 @@ pub fn collection(words: &[&str]) -> Option<Collection> {
         number: byte(number)?,
         filled: flags?.try_into().ok()?,
         lengths: list(lengths, 16, short)?.try_into().ok()?,
+        strict,
     })
 }
 
-/// The text of a collection record.
+/// The text of a collection record; it does not say the setting.
 pub fn collection_text(c: &Collection) -> String {
     let flags: String = c.filled.iter().map(u8::to_string).collect();
     format!("{} {} {flags} {}", c.count, c.number, commas(c.lengths))

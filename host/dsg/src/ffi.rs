@@ -15,7 +15,7 @@ use std::mem::MaybeUninit;
 #[repr(C)]
 #[derive(Clone, Copy, Debug, PartialEq, Eq)]
 pub struct Collected {
-    /// 0 refused, 1 repeat, 2 waiting, 3 complete in the body, 4 complete in the join buffer.
+    /// 0 refused, 1 repeat, 2 waiting, 3 complete in the body, 4 complete in the join buffer, 5 dropped.
     pub kind: u32,
     /// The refusal's number.
     pub number: u32,
@@ -25,6 +25,8 @@ pub struct Collected {
     pub start: usize,
     /// How many bytes it has.
     pub length: usize,
+    /// The offset of the cut for which a collection is dropped.
+    pub offset: usize,
 }
 
 /// The answer to a message: number 0, or the refusal and its offset.
@@ -41,7 +43,7 @@ pub struct ReadAnswer {
 #[repr(C)]
 #[derive(Clone, Copy, Debug, PartialEq, Eq)]
 pub struct Received {
-    /// 0 body refused, 1 repeat, 2 waiting, 3 table accepted, 4 message refused.
+    /// 0 body refused, 1 repeat, 2 waiting, 3 table accepted, 4 message refused, 5 dropped.
     pub kind: u32,
     /// The refusal's number.
     pub number: u32,
@@ -90,7 +92,7 @@ mod raw {
     use crate::records::{Collection, Modem, Table, Tunnel};
 
     extern "C" {
-        pub fn dsg_empty_collection(held: *mut Collection) -> *mut Collection;
+        pub fn dsg_empty_collection(held: *mut Collection, strict: u16) -> *mut Collection;
         pub fn dsg_empty_table(table: *mut Table) -> *mut Table;
         pub fn dsg_empty_modem(modem: *mut Modem) -> *mut Modem;
         pub fn dsg_collect(
@@ -179,10 +181,10 @@ unsafe fn written<T>(call: impl FnOnce(*mut T) -> *mut T) -> T {
     unsafe { answer.assume_init() }
 }
 
-/// A collection record with nothing collected.
-pub fn empty_collection() -> Collection {
+/// A collection record with nothing collected, loose (0) or strict.
+pub fn empty_collection(strict: u16) -> Collection {
     // SAFETY: it writes the whole record.
-    unsafe { written(|held| raw::dsg_empty_collection(held)) }
+    unsafe { written(|held| raw::dsg_empty_collection(held, strict)) }
 }
 
 /// The table of the empty message.

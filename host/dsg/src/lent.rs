@@ -9,15 +9,15 @@ use std::ops::Range;
 /// How large a buffer every listing fits in.
 pub const LISTING_BYTES: usize = 3755;
 
-/// Refuses a buffer that is too short for a listing. The paper's own numbers end at 18.
+/// Refuses a buffer that is too short for a listing. It is none of the documents' numbers.
 pub const REFUSED_SHORT_LISTING: u8 = 100;
 
-/// A refusal: document 01's number, and for 6 to 15 the offset in the message.
+/// A refusal: the documents' number, and for 6 to 15 and 21 the offset in the message.
 #[derive(Clone, Copy, Debug, PartialEq, Eq)]
 pub struct Refusal {
     /// The number of the refusal.
     pub number: u8,
-    /// The offset of the type byte concerned; 0 for the others.
+    /// The offset of the type byte concerned, or of the cut; 0 for the others.
     pub offset: usize,
 }
 
@@ -29,13 +29,30 @@ impl fmt::Display for Refusal {
 
 impl Error for Refusal {}
 
-/// Why a body that goes all the way gave no table: it was refused itself, or the message that it completed was.
+/// Why a body gave no message or no table: what was refused, and so what is left of what is lent.
 #[derive(Clone, Copy, Debug, PartialEq, Eq)]
 pub enum Refused {
     /// The body, with 1 to 5: all that is lent is as it was.
     Body(Refusal),
-    /// The message, with 6 to 15 and the offset in it: its pieces stay collected, and the table is as it was.
+    /// The message that the body completed, with 6 to 15 and the offset in it: its pieces stay collected, and the table is as
+    /// it was.
     Message(Refusal),
+    /// The collection that the body filled, with 21 and the offset of the first bad cut in the joined message: it is strict,
+    /// and was cut inside an element. It is dropped: the record is empty and keeps its setting, both buffers hold what they
+    /// would hold had the message been complete, and the table is as it was. The next body that is not refused starts a run.
+    Dropped(Refusal),
+}
+
+impl Refused {
+    /// The number and the offset, whatever was refused.
+    #[must_use]
+    pub fn refusal(self) -> Refusal {
+        match self {
+            Refused::Body(refusal) | Refused::Message(refusal) | Refused::Dropped(refusal) => {
+                refusal
+            }
+        }
+    }
 }
 
 impl fmt::Display for Refused {
@@ -43,6 +60,7 @@ impl fmt::Display for Refused {
         match self {
             Refused::Body(refusal) => write!(f, "body {refusal}"),
             Refused::Message(refusal) => write!(f, "message {refusal}"),
+            Refused::Dropped(refusal) => write!(f, "collection {refusal}"),
         }
     }
 }
@@ -199,24 +217,26 @@ fn ucid_numbers(ucid: Option<u8>) -> (u8, u8) {
     ucid.map_or((0, 0), |u| (1, u))
 }
 
-/// One body: the record and the buffers afterwards are what document 01 says.
+/// One body: the record and the buffers afterwards are what the documents say.
 ///
 /// # Errors
-/// 1 to 5; nothing lent changes.
+/// [`Refused::Body`]: nothing lent changes. [`Refused::Dropped`]: the record is empty and keeps its setting. No message is read
+/// here, so none is refused.
 pub fn collect(
     held: &mut Collection,
     slots: &mut [u8],
     join: &mut [u8],
     body: &[u8],
-) -> Result<Piece, Refusal> {
+) -> Result<Piece, Refused> {
     let answer = ffi::collect(held, slots, join, body);
     let part = answer.start..answer.start + answer.length;
     match answer.kind {
-        0 => Err(refusal(answer.number, 0)),
+        0 => Err(Refused::Body(refusal(answer.number, 0))),
         1 => Ok(Piece::Repeat),
         2 => Ok(Piece::Waiting(answer.empty)),
         3 => Ok(Piece::Complete(Part::Body(part))),
-        _ => Ok(Piece::Complete(Part::Join(part))),
+        4 => Ok(Piece::Complete(Part::Join(part))),
+        _ => Err(Refused::Dropped(refusal(answer.number, answer.offset))),
     }
 }
 
@@ -233,7 +253,8 @@ pub fn read_table(table: &mut Table, message: &[u8]) -> Result<(), Refusal> {
 ///
 /// # Errors
 /// The body is refused: nothing lent changes. The message that it completed is refused: the record and the buffers hold its
-/// pieces, so that one of them again is a repeat, and the table stays as it was.
+/// pieces, so that one of them again is a repeat, and the table stays as it was. The collection is dropped: the record is
+/// empty and keeps its setting, and the table stays as it was.
 pub fn receive(
     held: &mut Collection,
     table: &mut Table,
@@ -247,7 +268,8 @@ pub fn receive(
         1 => Ok(Received::Repeat),
         2 => Ok(Received::Waiting(answer.empty)),
         3 => Ok(Received::Accepted),
-        _ => Err(Refused::Message(refusal(answer.number, answer.offset))),
+        4 => Err(Refused::Message(refusal(answer.number, answer.offset))),
+        _ => Err(Refused::Dropped(refusal(answer.number, answer.offset))),
     }
 }
 

@@ -70,11 +70,45 @@ pub struct Receiver {
 }
 
 impl Receiver {
-    /// Nothing collected, and the table of the empty message.
+    /// Nothing collected, and the table of the empty message. The setting is loose: a message may be cut anywhere.
     #[must_use]
     pub fn new() -> Self {
+        Receiver::with(Collection::empty(false))
+    }
+
+    /// The same with the strict setting: a message that was cut inside an element is dropped.
+    ///
+    /// ```
+    /// use dsg::{Received, Receiver, Refusal, Refused};
+    ///
+    /// // a rule's element, cut behind its type byte
+    /// let (first, second) = ([7, 2, 1, 50], [7, 2, 2, 0]);
+    /// let dropped = Err(Refused::Dropped(Refusal { number: 21, offset: 1 }));
+    /// let mut receiver = Receiver::strict();
+    /// assert_eq!(receiver.receive(&first), Ok(Received::Waiting(1)));
+    /// assert_eq!(receiver.receive(&second), dropped);
+    /// assert_eq!(dropped.unwrap_err().to_string(), "collection refused 21 at 1");
+    ///
+    /// // nothing is collected now, and the setting stays
+    /// assert_eq!(receiver.receive(&second), Ok(Received::Waiting(1)));
+    /// receiver.forget();
+    /// assert_eq!(receiver.receive(&second), Ok(Received::Waiting(1)));
+    /// assert_eq!(receiver.receive(&first), dropped);
+    ///
+    /// // loose, the message is read: an empty rule
+    /// let mut receiver = Receiver::new();
+    /// assert_eq!(receiver.receive(&first), Ok(Received::Waiting(1)));
+    /// let empty_rule = Err(Refused::Message(Refusal { number: 13, offset: 0 }));
+    /// assert_eq!(receiver.receive(&second), empty_rule);
+    /// ```
+    #[must_use]
+    pub fn strict() -> Self {
+        Receiver::with(Collection::empty(true))
+    }
+
+    fn with(held: Collection) -> Self {
         Receiver {
-            held: Collection::default(),
+            held,
             table: Table::default(),
             count: None,
             slots: vec![0; BUFFER_BYTES].into(),
@@ -96,7 +130,7 @@ impl Receiver {
     /// ```
     ///
     /// # Errors
-    /// The refusal of the body, or of the message that it completed; the table stays.
+    /// The refusal of the body, of the message that it completed, or of the collection that it filled; the table stays.
     pub fn receive(&mut self, body: &[u8]) -> Result<Received, Refused> {
         let received = lent::receive(
             &mut self.held,
@@ -111,9 +145,9 @@ impl Receiver {
         Ok(received)
     }
 
-    /// Forgets what was collected. The table and its count stay.
+    /// Forgets what was collected. The setting stays, and so do the table and its count.
     pub fn forget(&mut self) {
-        self.held = Collection::default();
+        self.held = ffi::empty_collection(self.held.strict);
     }
 
     /// The table of the last message that was accepted.
@@ -145,9 +179,17 @@ impl Default for Receiver {
 }
 
 impl Default for Collection {
-    /// Nothing collected.
+    /// Nothing collected, loose.
     fn default() -> Self {
-        ffi::empty_collection()
+        Collection::empty(false)
+    }
+}
+
+impl Collection {
+    /// Nothing collected. Strict: a message that was cut inside an element is dropped.
+    #[must_use]
+    pub fn empty(strict: bool) -> Self {
+        ffi::empty_collection(strict.into())
     }
 }
 

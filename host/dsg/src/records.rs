@@ -116,7 +116,7 @@ pub struct Table {
     pub rules: [Rule; TABLE_ROOM],
 }
 
-/// What has been collected of a message.
+/// What has been collected of a message. [`Collection::empty`] makes the first one.
 #[repr(C)]
 #[derive(Clone, Copy, Debug, PartialEq, Eq)]
 pub struct Collection {
@@ -128,6 +128,9 @@ pub struct Collection {
     pub filled: [u8; 16],
     /// For each slot how many bytes it holds.
     pub lengths: [u16; 16],
+    /// The setting: 0 is loose, every other number strict. It comes back as it was lent. Set it only in an empty record, as
+    /// [`Collection::empty`] does.
+    pub strict: u16,
 }
 
 /// The states of a modem record, by number.

@@ -1,7 +1,7 @@
 //! What is lent is written, and nothing beside it: every lent thing stands between guards.
 
 use dsg::lent::{self, LISTING_BYTES};
-use dsg::{Collection, Event, Modem, Table, BUFFER_BYTES};
+use dsg::{Collection, Event, Modem, Refusal, Refused, Table, BUFFER_BYTES};
 
 const GUARD: usize = 64;
 const MARK: u8 = 0xA5;
@@ -40,6 +40,11 @@ impl Numbers {
         (self.0 >> 33) as usize % n
     }
 
+    /// A number from `low` to `high`, both included.
+    fn between(&mut self, low: usize, high: usize) -> usize {
+        low + self.below(high + 1 - low)
+    }
+
     fn byte(&mut self) -> u8 {
         self.below(256) as u8
     }
@@ -65,6 +70,7 @@ fn collecting_writes_only_what_is_lent() {
             number: 2,
             filled: [3; 16],
             lengths: [4; 16],
+            strict: 5,
         };
         let mut held = [aside, Collection::default(), aside];
         for _ in 0..3_000 {
@@ -72,6 +78,40 @@ fn collecting_writes_only_what_is_lent() {
             let _ = lent::collect(&mut held[1], slots.lent(), join.lent(), &body);
             assert!(slots.is_whole() && join.is_whole());
             assert_eq!((held[0], held[2]), (aside, aside));
+        }
+    }
+}
+
+#[test]
+fn dropping_writes_only_what_is_lent() {
+    let mut numbers = Numbers(5);
+    let (mut slots, mut join) = (Guarded::new(BUFFER_BYTES), Guarded::new(BUFFER_BYTES));
+    let mut held = [Collection::empty(true); 3];
+    for number in (2..=16).cycle().take(300) {
+        // The first element has 256 bytes, and the first piece ends in it.
+        let cut = numbers.between(1, 255);
+        for sequence in 1..=number {
+            let length = if sequence == 1 { cut } else { 1_497 };
+            let mut body: Vec<u8> = (0..3 + length).map(|_| numbers.byte()).collect();
+            body[..3].copy_from_slice(&[7, number, sequence]);
+            match sequence {
+                1 if cut > 1 => body[4] = 254,
+                2 if cut == 1 => body[3] = 254,
+                _ => {}
+            }
+            let answer = lent::collect(&mut held[1], slots.lent(), join.lent(), &body);
+            if sequence == number {
+                let refusal = Refusal {
+                    number: 21,
+                    offset: cut,
+                };
+                assert_eq!(answer, Err(Refused::Dropped(refusal)));
+            }
+            assert!(slots.is_whole() && join.is_whole());
+            assert_eq!(
+                (held[0], held[2]),
+                (Collection::empty(true), Collection::empty(true))
+            );
         }
     }
 }

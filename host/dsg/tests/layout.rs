@@ -21,10 +21,10 @@ fn layout_is_the_headers() {
     layout!(ours, "dsg_classifier", Classifier, destination source mask number start end priority hassource hasmask hasstart hasend);
     layout!(ours, "dsg_timer_values", TimerValues, tdsg1 tdsg2 tdsg3 tdsg4);
     layout!(ours, "dsg_table", Table, rulecount classifiercount channelcount timers channels classifiers rules);
-    layout!(ours, "dsg_collection", Collection, count number filled lengths);
+    layout!(ours, "dsg_collection", Collection, count number filled lengths strict);
     layout!(ours, "dsg_tunnel", Tunnel, address mode count destinations sources masks starts ends numbers ports);
     layout!(ours, "dsg_modem", Modem, last receive retry tdsg1 tdsg2 tdsg3 tdsg4 receiveon retryon state permission hasucid ucid);
-    layout!(ours, "dsg_collected", Collected, kind number empty start length);
+    layout!(ours, "dsg_collected", Collected, kind number empty start length offset);
     layout!(ours, "dsg_read_answer", ReadAnswer, number offset);
     layout!(ours, "dsg_received", Received, kind number empty offset);
     layout!(ours, "dsg_choice", Choice, number place);

@@ -5,7 +5,7 @@
 //!   tunnels    prepared tunnels given outright            events     modem records and events by number
 //!   pieces     collection records, and receiving
 //!
-//! What a number means is taken from document 01 and from the words of `include/dsg.h`, and where both are
+//! What a number means is taken from documents 01 and 02 and from the words of `include/dsg.h`, and where they are
 //! silent from docs/DECISIONS.md (D-003, D-004, D-008, D-018, D-019, D-023), never from an answer of the
 //! library. Each scenario has a seed of its own, which a failure prints with the input.
 

@@ -1,8 +1,8 @@
 //! The layout of every record and answer, held to the library itself.
 //!
 //! `layout.rs` compares the header with the mirror. Here the library writes and the mirror reads, and the
-//! mirror writes and the library reads. What is expected follows by document 01 from the bytes, events and
-//! numbers that a test chose; `places::tell_apart` sees to it that they tell every place from every other.
+//! mirror writes and the library reads. What is expected follows by documents 01 and 02 from the bytes, events
+//! and numbers that a test chose; `places::tell_apart` sees to it that they tell every place from every other.
 //!
 //!   places      every field of every record and answer, by name
 //!   messages    tables of chosen numbers, and their messages        numbers   numbers to choose

@@ -47,11 +47,11 @@ record!(Rule: number priority ucidcount clientcount numbercount ucids numbers tu
 record!(Classifier: destination source mask number start end priority hassource hasmask hasstart hasend);
 record!(TimerValues: tdsg1 tdsg2 tdsg3 tdsg4);
 record!(Table: rulecount classifiercount channelcount timers channels classifiers rules);
-record!(Collection: count number filled lengths);
+record!(Collection: count number filled lengths strict);
 record!(Tunnel: address mode count destinations sources masks starts ends numbers ports);
 record!(Modem: last receive retry tdsg1 tdsg2 tdsg3 tdsg4 receiveon retryon state permission hasucid ucid);
 
-record!(Collected: kind number empty start length);
+record!(Collected: kind number empty start length offset);
 record!(ReadAnswer: number offset);
 record!(Received: kind number empty offset);
 record!(Choice: number place);

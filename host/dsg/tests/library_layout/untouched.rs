@@ -1,5 +1,5 @@
 //! Where dsg.h says that nothing is written, what is lent lies in memory that cannot be written: a write,
-//! even of the same bytes, would end the test.
+//! even of the same bytes, would end the test. A table that holds what it held may be written with the same.
 
 use crate::judging::forward;
 use crate::pieces::BUFFER_BYTES;
@@ -86,6 +86,15 @@ static BODY: [u8; 33] = [
     0x23, 0xF1, 0x0C, 0xC0,
 ];
 
+/// The same message in two bodies, cut inside the rule.
+static CUT: [&[u8]; 2] = [
+    &[7, 2, 1, 50, 20, 1],
+    &[
+        7, 2, 2, 1, 5, 2, 1, 80, 4, 4, 4, 2, 0, 42, 5, 6, 1, 0, 0x5E, 5, 5, 5, 51, 6, 1, 4, 0x23,
+        0xF1, 0x0C, 0xC0,
+    ],
+];
+
 #[test]
 fn choosing_judging_preparing_and_listing_write_nothing_lent_to_read() {
     let Client { kind, value } = CLIENT;
@@ -106,14 +115,26 @@ fn asking_a_modem_writes_nothing() {
 #[test]
 fn bodies_and_messages_are_only_read() {
     let (mut slots, mut join) = (vec![0; BUFFER_BYTES], vec![0; BUFFER_BYTES]);
-    let (mut held, mut table) = (ffi::empty_collection(), ffi::empty_table());
+    let (mut held, mut table) = (ffi::empty_collection(0), ffi::empty_table());
     let collected = ffi::collect(&mut held, &mut slots, &mut join, &BODY);
     assert_eq!((collected.kind, collected.length), (3, 30));
     assert_eq!(ffi::read(&mut table, &BODY[3..]).number, 0);
     let again = ffi::receive(&mut held, &mut table, &mut slots, &mut join, &BODY);
     assert_eq!(again.kind, 1);
-    let mut held = ffi::empty_collection();
+    let mut held = ffi::empty_collection(0);
     let received = ffi::receive(&mut held, &mut table, &mut slots, &mut join, &BODY);
     assert_eq!(received.kind, 3);
     assert_eq!(ffi::list_body(&BODY, &mut [0; 3_755]).number, 0);
+}
+
+#[test]
+fn bodies_of_a_dropped_collection_are_only_read_and_the_table_stays() {
+    let (mut slots, mut join) = (vec![0; BUFFER_BYTES], vec![0; BUFFER_BYTES]);
+    let (mut held, mut table) = (ffi::empty_collection(1), TABLE);
+    let collected = CUT.map(|body| ffi::collect(&mut held, &mut slots, &mut join, body));
+    assert_eq!(collected.map(|answer| answer.kind), [2, 5]);
+    let received = CUT.map(|body| ffi::receive(&mut held, &mut table, &mut slots, &mut join, body));
+    assert_eq!(received.map(|answer| answer.kind), [2, 5]);
+    assert_eq!((collected[1].offset, received[1].offset), (3, 3));
+    assert_eq!((held, table), (ffi::empty_collection(1), TABLE));
 }
