@@ -140,6 +140,27 @@ pub fn sixteen_bodies(message: &[u8]) -> Vec<Vec<u8>> {
         .collect()
 }
 
+/// The bodies of a message of whole elements, cut between them into sixteen pieces as long as they may be; what these cannot
+/// carry is left out.
+pub fn sixteen_bodies_of_elements(message: &[u8]) -> Vec<Vec<u8>> {
+    let mut rest = message;
+    (1..=16)
+        .map(|sequence| {
+            let mut end = 0;
+            while let Some(length) = rest.get(end + 1) {
+                let next = end + 2 + usize::from(*length);
+                if next > 1497 {
+                    break;
+                }
+                end = next;
+            }
+            let (piece, after) = rest.split_at(end);
+            rest = after;
+            [&[7, 16, sequence], piece].concat()
+        })
+        .collect()
+}
+
 /// A UDP frame of 128 bytes to the tunnel of rule `number` of [`table_message`].
 pub fn frame(number: u8, destination: u8, port: u16) -> Vec<u8> {
     let mut frame = vec![0; 128];

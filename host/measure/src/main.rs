@@ -6,11 +6,11 @@ use dsg::ffi;
 use dsg::records::Client;
 use dsg::{Collection, Event, Modem, Table, Tunnel, BUFFER_BYTES};
 use measure::inputs::{
-    frame, long_rows, ports_at, ports_message, sixteen_bodies, table_message, unlisted, with_alert,
-    without_port, LONGEST, PORTS_DESTINATION,
+    frame, long_rows, ports_at, ports_message, sixteen_bodies, sixteen_bodies_of_elements,
+    table_message, unlisted, with_alert, without_port, LONGEST, PORTS_DESTINATION,
 };
 use measure::plain;
-use measure::rounds::{medians, print_line, report, runner};
+use measure::rounds::{longer, median, medians, print_line, report, runner, samples, Runner};
 use std::hint::black_box;
 
 /// The client that only rule `n` of the measured tables lists.
@@ -91,14 +91,81 @@ fn collecting() {
     );
 }
 
-/// A record and two buffers that hold these bodies.
-fn collected(bodies: &[Vec<u8>]) -> (Collection, Vec<u8>, Vec<u8>) {
+/// A record of that setting and two buffers that hold these bodies.
+fn collected_in(strict: bool, bodies: &[Vec<u8>]) -> (Collection, Vec<u8>, Vec<u8>) {
     let (mut slots, mut join) = (vec![0u8; BUFFER_BYTES], vec![0u8; BUFFER_BYTES]);
-    let mut held = Collection::default();
+    let mut held = Collection::empty(strict);
     for body in bodies {
         ffi::collect(&mut held, &mut slots, &mut join, body);
     }
     (held, slots, join)
+}
+
+/// A loose record and two buffers that hold these bodies.
+fn collected(bodies: &[Vec<u8>]) -> (Collection, Vec<u8>, Vec<u8>) {
+    collected_in(false, bodies)
+}
+
+/// The library on these bodies, behind those that are held.
+fn library_takes<'a>(strict: bool, held: &'a [Vec<u8>], bodies: &'a [Vec<u8>]) -> Runner<'a> {
+    let (before, mut slots, mut join) = collected_in(strict, held);
+    runner("library", move || {
+        let mut held = before;
+        again(bodies, |b| {
+            ffi::collect(&mut held, &mut slots, &mut join, b)
+        });
+    })
+}
+
+/// Plain Rust on these bodies, behind those that are held.
+fn plain_takes<'a>(strict: bool, held: &'a [Vec<u8>], bodies: &'a [Vec<u8>]) -> Runner<'a> {
+    let (before, mut slots, mut join) = collected_in(strict, held);
+    runner("plain", move || {
+        let mut held = before;
+        again(bodies, |b| {
+            plain::collect::collect(&mut held, &mut slots, &mut join, b)
+        });
+    })
+}
+
+/// Sixteen pieces that end between elements, in both settings. The cuts alone are what the last piece takes longer in a strict
+/// collection; beside them plain Rust judges the joined message and does nothing else.
+fn collecting_strictly(what: &str, message: &[u8]) {
+    let bodies = sixteen_bodies_of_elements(message);
+    let (fifteen, last) = bodies.split_at(15);
+    let (whole, _, join) = collected_in(true, &bodies);
+    let length: usize = bodies.iter().map(|body| body.len() - 3).sum();
+    let times = samples(&mut [
+        library_takes(false, &[], &bodies),
+        plain_takes(false, &[], &bodies),
+        library_takes(true, &[], &bodies),
+        plain_takes(true, &[], &bodies),
+        library_takes(false, fifteen, last),
+        library_takes(true, fifteen, last),
+        runner("plain", || {
+            let (message, lengths) = (black_box(&join[..length]), black_box(&whole.lengths));
+            black_box(plain::cuts::first_bad_cut(message, lengths));
+        }),
+    ]);
+    let all = |name, k: usize| (name, median(times[k].clone()));
+    let cuts = ("library", longer(&times[5], &times[4]));
+    let collecting = format!("collecting {what}, {length} bytes");
+    print_line(
+        &format!("{collecting}, loose"),
+        &[all("library", 0), all("plain", 1)],
+    );
+    print_line(
+        &format!("{collecting}, strict"),
+        &[all("library", 2), all("plain", 3)],
+    );
+    print_line(
+        &format!("collecting {what}, strict to loose"),
+        &[all("strict", 2), all("loose", 0)],
+    );
+    print_line(
+        &format!("judging the cuts of {what}, alone"),
+        &[cuts, all("plain", 6)],
+    );
 }
 
 /// A repeated piece, and the same bytes compared.
@@ -392,6 +459,8 @@ fn reading_all() {
 
 fn collecting_all() {
     collecting();
+    collecting_strictly("real rows", &long_rows());
+    collecting_strictly("two-byte elements", &unlisted(LONGEST));
     repeating();
     repeating_all();
 }

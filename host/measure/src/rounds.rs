@@ -45,6 +45,11 @@ impl Runner<'_> {
 
 /// The median time of a call of each runner, in nanoseconds, over interleaved rounds.
 pub fn medians(runners: &mut [Runner]) -> Vec<f64> {
+    samples(runners).into_iter().map(median).collect()
+}
+
+/// The time of a call of each runner, in nanoseconds, in each of the interleaved rounds.
+pub fn samples(runners: &mut [Runner]) -> Vec<Vec<f64>> {
     let calls: Vec<u32> = runners.iter_mut().map(Runner::calls).collect();
     let mut samples = vec![Vec::with_capacity(ROUNDS); runners.len()];
     for _ in 0..ROUNDS {
@@ -52,10 +57,16 @@ pub fn medians(runners: &mut [Runner]) -> Vec<f64> {
             samples.push(runner.time(calls).as_secs_f64() * 1e9 / f64::from(calls));
         }
     }
-    samples.into_iter().map(median).collect()
+    samples
 }
 
-fn median(mut samples: Vec<f64>) -> f64 {
+/// The median of what the one took longer than the other, round by round.
+pub fn longer(one: &[f64], other: &[f64]) -> f64 {
+    let rounds = one.iter().zip(other);
+    median(rounds.map(|(one, other)| one - other).collect())
+}
+
+pub fn median(mut samples: Vec<f64>) -> f64 {
     samples.sort_by(f64::total_cmp);
     samples[samples.len() / 2]
 }

@@ -1,13 +1,14 @@
 //! The plain peers do the library's work: on every input that is measured both give the same answers.
 
-use dsg::lent::{self, Piece, Verdict};
+use dsg::lent::{self, Piece, Refused, Verdict};
 use dsg::records::Client;
 use dsg::{Collection, Event, Modem, Table, BUFFER_BYTES};
 use measure::inputs::{
-    frame, long_rows, ports_at, ports_message, sixteen_bodies, table_message, unlisted, with_alert,
-    without_port, LONGEST, PORTS_DESTINATION,
+    frame, long_rows, ports_at, ports_message, sixteen_bodies, sixteen_bodies_of_elements,
+    table_message, unlisted, with_alert, without_port, LONGEST, PORTS_DESTINATION,
 };
 use measure::plain;
+use measure::plain::collect::Answer;
 
 fn messages() -> Vec<Vec<u8>> {
     let mut messages: Vec<Vec<u8>> = [0, 1, 8, 32].map(table_message).into();
@@ -54,32 +55,144 @@ fn refuses_the_same_damaged_messages() {
     }
 }
 
-#[test]
-fn collects_the_same_messages() {
-    use plain::collect::Answer;
-    let bodies = sixteen_bodies(&long_rows());
-    let (mut h1, mut h2) = (Collection::default(), Collection::default());
-    let buffer = || vec![0u8; BUFFER_BYTES];
-    let ((mut s1, mut j1), (mut s2, mut j2)) = ((buffer(), buffer()), (buffer(), buffer()));
-    for body in bodies
-        .iter()
-        .rev()
-        .chain(&bodies)
-        .chain([&vec![7], &vec![8, 2, 3]])
-    {
-        let ours = lent::collect(&mut h1, &mut s1, &mut j1, body);
-        let theirs = plain::collect::collect(&mut h2, &mut s2, &mut j2, body);
-        let same = match ours {
-            Err(refusal) => Answer::Refused(refusal.number),
+/// The library and plain Rust, each with a record and buffers.
+struct Both {
+    ours: (Collection, Vec<u8>, Vec<u8>),
+    theirs: (Collection, Vec<u8>, Vec<u8>),
+}
+
+impl Both {
+    fn new(strict: bool) -> Both {
+        let buffer = || vec![0u8; BUFFER_BYTES];
+        let lent = || (Collection::empty(strict), buffer(), buffer());
+        Both {
+            ours: lent(),
+            theirs: lent(),
+        }
+    }
+
+    /// What both answer, and leave alike.
+    fn take(&mut self, body: &[u8]) -> Answer {
+        let (held, slots, join) = &mut self.ours;
+        let ours = match lent::collect(held, slots, join, body) {
+            Err(Refused::Dropped(refusal)) => {
+                assert_eq!(refusal.number, 21);
+                Answer::Dropped(refusal.offset)
+            }
+            Err(refused) => Answer::Refused(refused.refusal().number),
             Ok(Piece::Repeat) => Answer::Repeat,
             Ok(Piece::Waiting(empty)) => Answer::Waiting(empty),
             Ok(Piece::Complete(lent::Part::Body(part) | lent::Part::Join(part))) => {
                 Answer::Complete(part.len())
             }
         };
-        assert_eq!(same, theirs);
-        assert_eq!((h1, &s1, &j1), (h2, &s2, &j2));
+        let (held, slots, join) = &mut self.theirs;
+        assert_eq!(plain::collect::collect(held, slots, join, body), ours);
+        assert!(self.ours == self.theirs, "what {ours:?} leaves");
+        ours
     }
+
+    /// What the last of these bodies is answered.
+    fn take_all<'a>(&mut self, bodies: impl IntoIterator<Item = &'a Vec<u8>>) -> Option<Answer> {
+        bodies.into_iter().map(|body| self.take(body)).last()
+    }
+}
+
+#[test]
+fn collects_the_same_messages() {
+    for strict in [false, true] {
+        let bodies = sixteen_bodies(&long_rows());
+        let mut both = Both::new(strict);
+        // the first piece ends inside an element
+        let complete = [Answer::Complete(LONGEST), Answer::Dropped(1_497)][usize::from(strict)];
+        let again = [Answer::Repeat, Answer::Dropped(1_497)][usize::from(strict)];
+        assert_eq!(both.take_all(bodies.iter().rev()), Some(complete));
+        assert_eq!(both.take_all(&bodies), Some(again));
+        assert_eq!(both.take(&[7]), Answer::Refused(2));
+        assert_eq!(both.take(&[8, 2, 3]), Answer::Refused(5));
+        assert_eq!(both.take(&[8, 2, 2]), Answer::Waiting(1));
+        assert_eq!(both.take(&[9, 1, 1, 50]), Answer::Complete(1));
+        assert_eq!(both.take(&[9, 1, 1, 50]), Answer::Repeat);
+    }
+}
+
+#[test]
+fn sixteen_pieces_between_elements_are_complete_in_both_settings() {
+    // real rows: a configuration of 210 bytes and five rows of 256, then five to a piece
+    let inputs = [
+        (long_rows(), 1_490, 1_280),
+        (unlisted(LONGEST), 1_496, 1_496),
+    ];
+    for (message, first, each) in inputs {
+        let bodies = sixteen_bodies_of_elements(&message);
+        let pieces: Vec<&[u8]> = bodies.iter().map(|body| &body[3..]).collect();
+        let lengths: Vec<usize> = pieces.iter().map(|piece| piece.len()).collect();
+        assert_eq!(lengths[0], first);
+        assert_eq!(lengths[1..], [each; 15]);
+        let joined = pieces.concat();
+        assert!(message.starts_with(&joined));
+        for strict in [false, true] {
+            let mut both = Both::new(strict);
+            let complete = Some(Answer::Complete(joined.len()));
+            assert_eq!(both.take_all(&bodies), complete);
+            let (held, _, join) = &both.theirs;
+            assert_eq!(join[..joined.len()], joined);
+            assert_eq!(
+                held.lengths[..],
+                lengths.iter().map(|&n| n as u16).collect::<Vec<_>>()
+            );
+            let judged = plain::cuts::first_bad_cut(&joined, &held.lengths);
+            assert_eq!(judged, None);
+        }
+    }
+}
+
+/// The bodies of a message that is cut at these places.
+fn bodies_cut_at(message: &[u8], cuts: &[usize]) -> Vec<Vec<u8>> {
+    let bounds = [&[0], cuts, &[message.len()]].concat();
+    let pieces = bounds.windows(2).map(|pair| &message[pair[0]..pair[1]]);
+    let number = cuts.len() as u8 + 1;
+    let body = |(piece, sequence): (&[u8], u8)| [&[7, number, sequence], piece].concat();
+    pieces.zip(1..).map(body).collect()
+}
+
+/// Messages that two pieces carry: whole elements, and such that at some place have a faulty head.
+fn messages_to_cut() -> Vec<Vec<u8>> {
+    let rows = table_message(8)[..1_400].to_vec();
+    let lone = [&unlisted(300)[..], &[50]].concat();
+    // where the configuration has its length byte, and the first and the fourteenth classifier
+    let damaged = [1, 211, 692].map(|at| {
+        let mut damaged = rows.clone();
+        damaged[at] = 255;
+        damaged
+    });
+    [vec![unlisted(700), lone, rows], damaged.to_vec()].concat()
+}
+
+#[test]
+fn judges_the_same_cuts() {
+    let (mut good, mut bad) = (0, 0);
+    for message in messages_to_cut() {
+        let places = 0..=message.len();
+        let cuttings = places.flat_map(|cut| {
+            let behind = cut + (message.len() - cut) / 2;
+            [vec![cut], vec![0, cut], vec![cut, behind]]
+        });
+        for cuts in cuttings {
+            let bodies = bodies_cut_at(&message, &cuts);
+            let lengths: Vec<u16> = bodies.iter().map(|body| body.len() as u16 - 3).collect();
+            let answer = Both::new(true).take_all(&bodies);
+            let judged = plain::cuts::first_bad_cut(&message, &lengths);
+            let said = judged.map_or(Answer::Complete(message.len()), Answer::Dropped);
+            assert_eq!(answer, Some(said), "cut at {cuts:?}");
+            *(if judged.is_some() {
+                &mut bad
+            } else {
+                &mut good
+            }) += 1;
+        }
+    }
+    assert!(good > 1_000 && bad > 5_000, "{good} good, {bad} bad");
 }
 
 #[test]

@@ -71,12 +71,12 @@ fn scenario(random: &mut Random, area: Area) -> Vec<Request> {
         Area::Modem => events::scenario(random),
         Area::List => vec![listing(random)],
         Area::All => {
-            let area = match random.below(60) {
-                0..=32 => Area::Read,
-                33..=43 => Area::List,
-                44..=46 => Area::Collect,
-                47..=49 => Area::Judge,
-                50..=51 => Area::Receive,
+            let area = match random.below(120) {
+                0..=62 => Area::Read,
+                63..=84 => Area::List,
+                85..=92 => Area::Collect,
+                93..=99 => Area::Judge,
+                100..=103 => Area::Receive,
                 _ => Area::Modem,
             };
             scenario(random, area)

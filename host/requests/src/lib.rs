@@ -1,8 +1,10 @@
 //! Makes bench requests from a seed, and compares the answers that programs give to them.
 //!
 //!   generator    requests of an area, scenario by scenario
-//!   pieces, receiving, messages, rows, tables, frames, headers, misses, events   the scenarios' parts
+//!   pieces, strict, receiving, messages, cuttings, rows, tables, frames, headers, misses, events   the
+//!                scenarios' parts
 //!   packets      what classifiers look at in a frame
+//!   places       where a message may be cut
 //!   random       the numbers behind them
 //!   programs     a program that answers requests through pipes
 //!   tally        how often each answer, row and broken record was seen
@@ -13,6 +15,7 @@
 
 #![forbid(unsafe_code)]
 
+pub mod cuttings;
 pub mod events;
 pub mod frames;
 pub mod generator;
@@ -21,10 +24,12 @@ pub mod messages;
 pub mod misses;
 pub mod packets;
 pub mod pieces;
+pub mod places;
 pub mod programs;
 pub mod random;
 pub mod receiving;
 pub mod rows;
 pub mod shortening;
+pub mod strict;
 pub mod tables;
 pub mod tally;

@@ -1,21 +1,25 @@
 //! Random collections: runs of pieces with all that may come between them, records that no calls
-//! could have made, bodies that are refused, and buffers that are too short.
+//! could have made, bodies that are refused, and buffers that are too short. Here messages are cut
+//! anywhere, and one collection in three is strict; `strict` has messages that are cut with an aim.
 
 use crate::messages::message;
 use crate::random::Random;
+use crate::strict;
 use reference::collecting::{Fault, Record, BODY_MAX, BUFFER_MIN, PIECE_MAX, SLOTS};
 use reference::protocol::request::{Request, BUFFER_MAX};
 use reference::table::MESSAGE_MAX;
+use std::ops::Range;
 
 pub fn scenario(random: &mut Random) -> Vec<Request> {
-    match random.below(10) {
+    match random.below(16) {
         0 => short_buffers(random),
         1..=3 => invented_record(random),
-        _ => run(random),
+        4..=8 => run(random),
+        _ => strict::scenario(random),
     }
 }
 
-fn pieces(bodies: Vec<Vec<u8>>) -> impl Iterator<Item = Request> {
+pub fn pieces(bodies: Vec<Vec<u8>>) -> impl Iterator<Item = Request> {
     bodies.into_iter().map(Request::Piece)
 }
 
@@ -33,18 +37,37 @@ pub fn any_sizes(random: &mut Random) -> [usize; 2] {
     [random.pick(sizes), random.pick(sizes)]
 }
 
-fn new_buffers([slot, join]: [usize; 2], fill: u8) -> Request {
-    Request::New { slot, join, fill }
+/// Buffers of these sizes, in either setting.
+fn new_buffers(random: &mut Random, [slot, join]: [usize; 2], fill: u8) -> Request {
+    Request::New {
+        slot,
+        join,
+        fill,
+        strict: random.once_in(3),
+    }
+}
+
+/// Buffers that do, in that setting.
+pub fn good_buffers(random: &mut Random, strict: bool) -> Request {
+    let [slot, join] = good_sizes(random);
+    Request::New {
+        slot,
+        join,
+        fill: random.byte(),
+        strict,
+    }
 }
 
 /// Pieces, good and bad, with one buffer, both or none too short; then buffers that do.
 fn short_buffers(random: &mut Random) -> Vec<Request> {
     let mut requests = Vec::new();
     for _ in 0..random.between(1, 3) {
-        requests.push(new_buffers(any_sizes(random), random.byte()));
+        let (sizes, fill) = (any_sizes(random), random.byte());
+        requests.push(new_buffers(random, sizes, fill));
         requests.extend(pieces(vec![body(random, 1, 1, b"x"), refused_body(random)]));
     }
-    requests.push(new_buffers(good_sizes(random), 0));
+    let sizes = good_sizes(random);
+    requests.push(new_buffers(random, sizes, 0));
     requests
 }
 
@@ -57,7 +80,8 @@ fn run(random: &mut Random) -> Vec<Request> {
     arrivals.push(random.pick(&bodies));
     let mut requests = Vec::new();
     if random.once_in(2) {
-        requests.push(new_buffers(good_sizes(random), random.byte()));
+        let strict = random.once_in(3);
+        requests.push(good_buffers(random, strict));
     }
     requests.extend(pieces(arrivals));
     if random.once_in(8) {
@@ -111,20 +135,31 @@ pub fn fewest_pieces(message: &[u8]) -> usize {
 
 /// So many bodies that carry the message, cut anywhere; some pieces may be empty.
 pub fn cut_into(random: &mut Random, number: usize, count: u8, message: &[u8]) -> Vec<Vec<u8>> {
-    let mut rest = message;
-    let mut bodies = Vec::new();
-    for sequence in 1..=number {
-        let room_after = (number - sequence) * PIECE_MAX;
-        let least = rest.len().saturating_sub(room_after);
-        let length = random.between(least, rest.len().min(PIECE_MAX));
-        let (piece, after) = rest.split_at(length);
-        bodies.push(body(random, number as u8, sequence as u8, piece));
-        rest = after;
+    let (mut cuts, mut at) = (Vec::new(), 0);
+    for after in (1..number).rev() {
+        let rest = message.len() - at;
+        let least = rest.saturating_sub(after * PIECE_MAX);
+        at += random.between(least, rest.min(PIECE_MAX));
+        cuts.push(at);
     }
-    for body in &mut bodies {
-        body[0] = count;
-    }
-    bodies
+    cut_at(count, message, &cuts)
+}
+
+/// Bodies that carry the message, cut at these places.
+pub fn cut_at(count: u8, message: &[u8], cuts: &[usize]) -> Vec<Vec<u8>> {
+    let spans = spans(cuts, message.len());
+    let number = spans.len() as u8;
+    let pieces = spans.into_iter().map(|span| &message[span]);
+    pieces
+        .zip(1..)
+        .map(|(piece, sequence)| [&[count, number, sequence], piece].concat())
+        .collect()
+}
+
+/// Where the pieces of a message that ends there lie, cut at these places.
+pub fn spans(cuts: &[usize], end: usize) -> Vec<Range<usize>> {
+    let bounds = [&[0], cuts, &[end]].concat();
+    bounds.windows(2).map(|pair| pair[0]..pair[1]).collect()
 }
 
 fn body(random: &mut Random, number: u8, sequence: u8, piece: &[u8]) -> Vec<u8> {
@@ -135,15 +170,23 @@ fn body(random: &mut Random, number: u8, sequence: u8, piece: &[u8]) -> Vec<u8> 
 
 /// A body that comes between: a refused one, or one near a piece of the run.
 fn intruder(random: &mut Random, bodies: &[Vec<u8>]) -> Vec<u8> {
+    if random.once_in(4) {
+        refused_body(random)
+    } else {
+        near_body(random, bodies)
+    }
+}
+
+/// A body near a piece of the run.
+pub fn near_body(random: &mut Random, bodies: &[Vec<u8>]) -> Vec<u8> {
     let mut near = random.pick(bodies);
-    match random.below(8) {
+    match random.below(6) {
         0 => near[0] = near[0].wrapping_add(1),
         1 => near[1] = random.between(1, SLOTS) as u8,
         2 => near[2] = random.between(1, near[1].into()) as u8,
         3 => near.push(random.byte()),
         4 => drop(near.pop()),
-        5 if near.len() > 3 => *near.last_mut().expect("a byte") ^= 1,
-        _ => near = refused_body(random),
+        _ => *near.last_mut().expect("a byte") ^= 1,
     }
     near
 }
@@ -176,15 +219,18 @@ pub fn refused_body(random: &mut Random) -> Vec<u8> {
 }
 
 /// A record given outright, mostly one that no calls could have made, then pieces that would be
-/// repeats or would complete it if it held what it says.
+/// repeats or would complete it if it held what it says. With a small number in all bytes a message is
+/// one of short elements.
 fn invented_record(random: &mut Random) -> Vec<Request> {
-    let fill = random.byte();
+    let any = random.byte();
+    let fill = random.pick(&[0, 1, 3, any, any]);
     let mut record = sound_record(random);
     let held = record.clone();
     if !random.once_in(4) {
         break_record(random, &mut record);
     }
-    let mut requests = vec![new_buffers(good_sizes(random), fill), Request::Rec(record)];
+    let sizes = good_sizes(random);
+    let mut requests = vec![new_buffers(random, sizes, fill), Request::Rec(record)];
     if random.once_in(3) {
         requests.push(Request::Piece(refused_body(random)));
     }

@@ -1,17 +1,20 @@
 //! Random lives of a collection through `recv`: messages that are accepted and messages that are
 //! refused, one after another on the same buffers, with all that may come between their pieces, and
-//! questions about the table that is lent by then.
+//! questions about the table that is lent by then. Half of the collections are strict.
 
+use crate::cuttings::{cutting, message_of_elements};
 use crate::frames::questions;
 use crate::messages::message;
 use crate::pieces::{any_sizes, arrivals, break_record, cut_into, fewest_pieces, fitting_body};
 use crate::pieces::{good_sizes, refused_body, sound_record};
 use crate::random::Random;
+use crate::strict::body_after;
 use crate::tables::free_table;
 use reference::collecting::{Record, SLOTS};
 use reference::protocol::request::Request;
 use reference::receiving::{receive_body, Received};
 use reference::table::{Table, MESSAGE_MAX};
+use reference::Refusal;
 
 /// Buffers, now and then a table lent outright, then a message or some.
 pub fn scenario(random: &mut Random) -> Vec<Request> {
@@ -62,17 +65,23 @@ impl Life<'_> {
         self.fill = self.random.pick(&[0, any]);
         self.slots = vec![self.fill; slot];
         self.join = vec![self.fill; join];
-        self.record = Record::default();
+        self.record = Record::empty(self.random.once_in(2));
         self.requests.push(Request::New {
             slot,
             join,
             fill: self.fill,
+            strict: self.record.strict,
         });
     }
 
+    /// Gives the record but for its setting.
     fn give(&mut self, record: Record) {
-        self.record = record.clone();
-        self.requests.push(Request::Rec(record));
+        let given = |strict| Record {
+            strict,
+            ..record.clone()
+        };
+        self.record = given(self.record.strict);
+        self.requests.push(Request::Rec(given(false)));
     }
 
     fn lend_outright(&mut self) {
@@ -101,11 +110,15 @@ impl Life<'_> {
         }
     }
 
-    /// The bodies of another message, under the count held or the one after it or any.
+    /// The bodies of another message, under the count held or the one after it or any; in a strict
+    /// collection cut with an aim, mostly.
     fn next_bodies(&mut self) -> Vec<Vec<u8>> {
         let message = cuttable_message(self.random);
         let (held, any) = (self.record.count, self.random.byte());
         let count = self.random.pick(&[held, held.wrapping_add(1), any]);
+        if self.record.strict && !self.random.once_in(6) {
+            return cutting(self.random, message).bodies(count);
+        }
         let fewest = fewest_pieces(&message);
         let (more, any) = ((fewest + 1).min(SLOTS), self.random.between(fewest, SLOTS));
         let number = self.random.pick(&[fewest, more, more, any]);
@@ -115,11 +128,11 @@ impl Life<'_> {
     /// The pieces in any order, some of them again, with others between; all of them once more if the
     /// others began the collection anew.
     fn carry(&mut self, bodies: &[Vec<u8>]) {
-        let mut completed = false;
+        let mut ended = false;
         for body in arrivals(self.random, bodies) {
-            completed |= self.take(body);
+            ended |= self.take(body);
         }
-        if !completed {
+        if !ended {
             self.take_all(bodies.to_vec());
         }
     }
@@ -206,14 +219,15 @@ impl Life<'_> {
         }
     }
 
-    /// Sends one body, and says whether it completed a message. Questions follow when it did.
+    /// Sends one body, and says whether it completed a message, read or dropped. Questions follow when
+    /// it did, and behind a message that was dropped now and then another body.
     fn take(&mut self, body: Vec<u8>) -> bool {
         let received = receive_body(&mut self.record, &mut self.slots, &mut self.join, &body);
         let by_piece = self.mixed && self.random.once_in(3);
         self.requests.push(if by_piece {
-            Request::Piece(body)
+            Request::Piece(body.clone())
         } else {
-            Request::Recv(body)
+            Request::Recv(body.clone())
         });
         match received {
             Ok(Received::Accepted(table)) => {
@@ -225,6 +239,14 @@ impl Life<'_> {
             }
             Ok(Received::MessageRefused(_)) => {
                 self.ask(2);
+                true
+            }
+            Err(Refusal { number: 21, .. }) => {
+                self.ask(2);
+                if self.random.once_in(3) {
+                    let next = body_after(self.random, &[body]);
+                    self.take(next);
+                }
                 true
             }
             _ => false,
@@ -241,9 +263,13 @@ impl Life<'_> {
     }
 }
 
-/// A message as it comes, cut off where sixteen pieces end.
+/// A message as it comes, now and then one of any elements, cut off where sixteen pieces end.
 fn cuttable_message(random: &mut Random) -> Vec<u8> {
-    let mut message = message(random);
+    let mut message = if random.once_in(8) {
+        message_of_elements(random)
+    } else {
+        message(random)
+    };
     message.truncate(MESSAGE_MAX);
     message
 }

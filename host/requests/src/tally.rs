@@ -3,6 +3,7 @@
 //!
 //!   answers       each answer by request kind, each refusal that the kind can give
 //!   collections   bodies by the buffers and records that they meet, messages that `recv` completes
+//!   cuts          runs in strict collections, by where they were cut
 //!   lent          tables that become lent, by what they hold and where they come from
 //!   questions     what is asked of them, by what decides the answer
 //!   headers       frames that classifiers were asked about, by IP header and port
@@ -11,11 +12,12 @@
 //!   marks         which parts a classifier has
 //!   modems        rows of the modem's table, broken records, timers about their ends
 //!
-//! `collections`, `lent` and `modems` each follow a state that requests keep, and name what a request
-//! shows of it.
+//! `collections`, `cuts`, `lent` and `modems` each follow a state that requests keep, and name what a
+//! request shows of it.
 
 mod answers;
 mod collections;
+mod cuts;
 mod headers;
 mod lent;
 mod marks;
@@ -25,6 +27,7 @@ mod questions;
 mod sources;
 
 use collections::Collections;
+use cuts::Cuts;
 use lent::Lent;
 use modems::Modems;
 use reference::protocol::request::Request;
@@ -33,6 +36,7 @@ use std::collections::{BTreeMap, BTreeSet};
 pub struct Tally {
     counts: BTreeMap<String, u64>,
     collections: Collections,
+    cuts: Cuts,
     lent: Lent,
     modems: Modems,
 }
@@ -41,6 +45,7 @@ impl Default for Tally {
     fn default() -> Tally {
         let lines = answers::lines()
             .chain(collections::lines())
+            .chain(cuts::lines())
             .chain(lent::lines())
             .chain(questions::lines())
             .chain(headers::lines())
@@ -50,6 +55,7 @@ impl Default for Tally {
         Tally {
             counts: lines.map(|line| (line, 0)).collect(),
             collections: Collections::default(),
+            cuts: Cuts::default(),
             lent: Lent::default(),
             modems: Modems::default(),
         }
@@ -62,6 +68,7 @@ impl Tally {
         let mut seen = BTreeSet::new();
         seen.extend(answers::seen(request, answer));
         seen.extend(self.collections.seen(request, answer));
+        seen.extend(self.cuts.seen(request, answer));
         seen.extend(self.lent.seen(request, answer));
         seen.extend(self.modems.seen(request, answer));
         for line in seen {

@@ -1,9 +1,11 @@
 //! The generator: the same requests for a seed, all of them well formed, and nothing left out.
 
+use reference::collecting::{take_piece, Record, Taken, BUFFER_MIN};
 use reference::protocol::request::Request;
 use reference::protocol::{Session, BAD_REQUEST};
 use requests::generator::{Area, Generator};
 use requests::tally::Tally;
+use std::collections::BTreeSet;
 
 const AREAS: [Area; 7] = [
     Area::Collect,
@@ -83,6 +85,108 @@ fn every_line_about_recv_is_seen_in_5000_requests_of_its_area() {
     let tally = tallied(1, Area::Receive, 5_000);
     assert_eq!(missed(&tally, |line| line.contains("recv")), NONE);
     assert_eq!(missed(&tally, |line| line.contains("kept over")), NONE);
+}
+
+#[test]
+fn every_line_about_cuts_is_seen_in_5000_requests_of_collecting_but_those_about_recv() {
+    let tally = tallied(1, Area::Collect, 5_000);
+    let by_piece = |line: &str| line.starts_with("cuts: ") && !line.contains("recv");
+    assert_eq!(missed(&tally, by_piece), NONE);
+}
+
+#[test]
+fn every_kind_of_cut_is_judged_often_in_60000_requests() {
+    let often = [
+        ("piece: refused 21", 250),
+        ("recv: refused 21", 250),
+        ("cuts: completed", 500),
+        ("cuts: completed, cut at a start", 150),
+        ("cuts: completed, cut at the end", 50),
+        ("cuts: completed, empty piece first", 100),
+        ("cuts: completed, empty piece last", 150),
+        ("cuts: dropped", 500),
+        ("cuts: dropped, the only cut bad", 150),
+        ("cuts: dropped, the first of several cuts bad", 70),
+        ("cuts: dropped, one cut in the middle bad", 25),
+        ("cuts: dropped, the last of several cuts bad", 50),
+        ("cuts: dropped, bad cut 1 before a start", 100),
+        ("cuts: dropped, bad cut 1 behind a start", 200),
+        ("cuts: dropped, setting kept over 21", 200),
+        ("cuts: after 21, the same body: waiting", 80),
+        ("cuts: after 21, another body of the run: waiting", 80),
+        ("cuts: after 21, a body of another run: waiting", 120),
+        ("cuts: loose, completed with a bad cut", 300),
+        ("judge of a table kept over a dropped message", 80),
+    ];
+    for seed in 1..=2 {
+        let tally = tallied(seed, Area::All, 60_000);
+        for (line, least) in often {
+            let count = tally.of(line);
+            assert!(count >= least, "{line}: {count}, seed {seed}");
+        }
+        for (line, count) in tally.lines().filter(|(line, _)| line.starts_with("cuts: ")) {
+            assert!(count >= 15, "{line}: {count}, seed {seed}");
+        }
+    }
+}
+
+#[test]
+fn half_of_the_collections_are_strict() {
+    for area in [Area::Collect, Area::Receive] {
+        let requests = made(1, area, 60_000);
+        let settings = requests.iter().filter_map(|request| match request {
+            Request::New { strict, .. } => Some(*strict),
+            _ => None,
+        });
+        let settings: Vec<bool> = settings.collect();
+        let strict = settings.iter().filter(|&&strict| strict).count();
+        assert!(settings.len() >= 2_000, "{area:?}: {}", settings.len());
+        let share = 100 * strict / settings.len();
+        assert!((45..=60).contains(&share), "{area:?}: {share}");
+    }
+}
+
+/// The messages that strict collections complete in several pieces.
+fn messages_completed(seed: u64, count: usize) -> Vec<Vec<u8>> {
+    let mut record = Record::default();
+    let (mut slots, mut join) = (vec![0; BUFFER_MIN], vec![0; BUFFER_MIN]);
+    let mut messages = Vec::new();
+    for request in Generator::new(seed, Area::Collect).take(count) {
+        match request {
+            Request::New { strict, .. } => record = Record::empty(strict),
+            Request::Rec(given) => {
+                let strict = record.strict;
+                record = Record { strict, ..given };
+            }
+            Request::Piece(body) => {
+                let taken = take_piece(&mut record, &mut slots, &mut join, &body);
+                if let (Ok(Taken::CompleteJoin(message)), true) = (taken, record.strict) {
+                    messages.push(message.to_vec());
+                }
+            }
+            _ => {}
+        }
+    }
+    messages
+}
+
+#[test]
+fn elements_of_every_length_stand_in_messages_that_strict_collections_complete() {
+    let messages = messages_completed(1, 60_000);
+    let mut lengths = BTreeSet::new();
+    for message in &messages {
+        let mut rest = &message[..];
+        while let [_, length @ 0..=254, values @ ..] = rest {
+            let Some(next) = values.get(usize::from(*length)..) else {
+                break;
+            };
+            lengths.insert(*length);
+            rest = next;
+        }
+    }
+    assert!(lengths.iter().copied().eq(0..=254), "{lengths:?}");
+    let longest = messages.iter().map(Vec::len).max();
+    assert!(longest >= Some(23_900), "{longest:?}");
 }
 
 #[test]
@@ -187,7 +291,7 @@ fn a_message_that_recv_completes_has_lines_for_06_to_15_and_none_for_03() {
 #[test]
 fn every_refusal_has_a_line_of_the_tally() {
     let tally = Tally::default();
-    for number in 1..=18 {
+    for number in (1..=18).chain([21]) {
         let ending = format!("refused {number:02}");
         assert!(
             tally.lines().any(|(line, _)| line.ends_with(&ending)),

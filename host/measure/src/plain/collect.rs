@@ -1,5 +1,6 @@
 //! Pieces become a message.
 
+use super::cuts::first_bad_cut;
 use dsg::records::Collection;
 
 /// What a body is answered.
@@ -9,6 +10,8 @@ pub enum Answer {
     Repeat,
     Waiting(usize),
     Complete(usize),
+    /// 21, at the first bad cut.
+    Dropped(usize),
 }
 
 const SLOT: usize = 1500;
@@ -50,6 +53,17 @@ fn well_made(held: &Collection) -> bool {
         && held.filled.contains(&1)
 }
 
+/// Nothing but a run's count and number, in that setting.
+fn begun(strict: u16, count: u8, number: u8) -> Collection {
+    Collection {
+        count,
+        number,
+        filled: [0; 16],
+        lengths: [0; 16],
+        strict,
+    }
+}
+
 /// One body: the answer, with the record and both buffers as it leaves them.
 #[inline(never)]
 pub fn collect(held: &mut Collection, slots: &mut [u8], join: &mut [u8], body: &[u8]) -> Answer {
@@ -67,11 +81,7 @@ pub fn collect(held: &mut Collection, slots: &mut [u8], join: &mut [u8], body: &
         anew = true;
     }
     if anew {
-        *held = Collection {
-            count: body[0],
-            number: body[1],
-            ..Collection::default()
-        };
+        *held = begun(held.strict, body[0], body[1]);
     }
     held.filled[k] = 1;
     held.lengths[k] = piece.len() as u16;
@@ -88,6 +98,12 @@ pub fn collect(held: &mut Collection, slots: &mut [u8], join: &mut [u8], body: &
         let n = usize::from(n);
         join[at..at + n].copy_from_slice(&slots[k * SLOT..k * SLOT + n]);
         at += n;
+    }
+    if held.strict != 0 {
+        if let Some(cut) = first_bad_cut(&join[..at], &held.lengths[..number]) {
+            *held = begun(held.strict, 0, 0);
+            return Answer::Dropped(cut);
+        }
     }
     Answer::Complete(at)
 }

@@ -6,6 +6,7 @@
 //! measured are never inlined, as the library's cannot be.
 
 pub mod collect;
+pub mod cuts;
 pub mod judge;
 pub mod list;
 pub mod modem;

@@ -9,9 +9,13 @@ const ANSWERS: [(&str, &[&str], &[u8]); 12] = [
     (
         "piece",
         &["repeat", "waiting", "complete body", "complete join"],
-        &[1, 2, 3, 4, 5],
+        &[1, 2, 3, 4, 5, 21],
     ),
-    ("recv", &["repeat", "waiting", "accepted"], &[1, 2, 3, 4, 5]),
+    (
+        "recv",
+        &["repeat", "waiting", "accepted"],
+        &[1, 2, 3, 4, 5, 21],
+    ),
     ("read", &["table"], &[3, 6, 7, 8, 9, 10, 11, 12, 13, 14, 15]),
     ("tset", &["ok"], &[]),
     ("tread", &["ok"], &[3, 6, 7, 8, 9, 10, 11, 12, 13, 14, 15]),

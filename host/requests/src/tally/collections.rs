@@ -90,10 +90,16 @@ impl Collections {
         if self.sizes.iter().all(|size| SIZES.contains(size)) {
             lines.push(sizes_line(self.sizes));
         }
-        let record = part(answer, 1).and_then(|words| parse_collection(&words));
-        let (Some(record), false) = (record, answer.starts_with("refused")) else {
+        let Some(record) = part(answer, 1).and_then(|words| parse_collection(&words)) else {
             return lines;
         };
+        if answer.starts_with("refused") {
+            // only 21 leaves another record
+            if record != self.record {
+                (self.record, self.taker) = (record, None);
+            }
+            return lines;
+        }
         lines.extend(self.fault().map(|fault| broken_line(fault, taker)));
         let goes_on = (record.count, record.number) == (self.record.count, self.record.number);
         if let (Some(before), true) = (self.taker.filter(|&before| before != taker), goes_on) {

@@ -25,6 +25,7 @@ const LISTS: [(&str, usize); 6] = [
 ];
 const BY_RECV: &str = "of a table that recv lent";
 const KEPT: &str = "of a table kept over a refused message";
+const KEPT_OVER_21: &str = "of a table kept over a dropped message";
 
 pub fn lines() -> impl Iterator<Item = String> {
     let lists = SOURCES.into_iter().flat_map(|source| {
@@ -35,7 +36,7 @@ pub fn lines() -> impl Iterator<Item = String> {
     let marks = all_marks().map(|marks| marks_line(MESSAGE, marks));
     let asked = ["choose", "judge"]
         .into_iter()
-        .flat_map(|word| [BY_RECV, KEPT].map(|of| asked_line(word, of)));
+        .flat_map(|word| [BY_RECV, KEPT, KEPT_OVER_21].map(|of| asked_line(word, of)));
     lists.chain(marks).chain(asked)
 }
 
@@ -54,6 +55,8 @@ pub struct Lent {
     by_recv: bool,
     /// Whether `recv` refused a message since it was lent.
     kept: bool,
+    /// Whether `recv` dropped one.
+    kept_over_21: bool,
 }
 
 impl Lent {
@@ -83,6 +86,7 @@ impl Lent {
 
     fn received(&mut self, answer: &str) -> Vec<String> {
         self.kept |= answer.starts_with("message refused");
+        self.kept_over_21 |= answer.starts_with("refused 21 ");
         let words = part(answer, 0).unwrap_or_default();
         match words.split_first() {
             Some((&"accepted", table)) => {
@@ -105,13 +109,17 @@ impl Lent {
         *self = Lent {
             table,
             by_recv,
-            kept: false,
+            ..Lent::default()
         };
         lines
     }
 
     fn asked(&self, word: &str) -> Vec<String> {
-        let of = [(self.by_recv, BY_RECV), (self.kept, KEPT)];
+        let of = [
+            (self.by_recv, BY_RECV),
+            (self.kept, KEPT),
+            (self.kept_over_21, KEPT_OVER_21),
+        ];
         let of = of.into_iter().filter(|(holds, _)| *holds);
         of.map(|(_, of)| asked_line(word, of)).collect()
     }
