@@ -22,7 +22,7 @@ use Rattle.body_tests.specs.Refusals.{numberOf}
 use Rattle.collector_demands.specs.Runs.{accepts, lookup, continues, runFrom, missing, message, judged, Reply, reply, storedReply, replyFrom, replyOf}
 use Rattle.collector_demands.specs.Demand.{Lent, lentAfter, replyTo}
 use Rattle.collector_demands.proofs.Demands.{demand-2-nothing}
-use Rattle.collector_demands.proofs.Refine.{blank-nothing}
+use Rattle.collector_demands.proofs.Stored.{blank-nothing}
 use Rattle.receiver.specs.Receive.{Told, Taken, taken, Had, receiveStep}
 use Rattle.bodies.specs.Body.{zeros, received, reportText, bodyText}
 

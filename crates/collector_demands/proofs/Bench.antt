@@ -29,7 +29,8 @@ use Rattle.collection.specs.declared.Collection.{Collection}
 use Rattle.collector_demands.specs.Runs.{accepts, lookup, continues, missing, message, lengthsTo, judged, settledRun, runFrom, reply, replyFrom, replyOf}
 use Rattle.wire.proofs.Laws.{clash}
 use Rattle.collector_demands.specs.Demand.{Lent, lentAfter, replyTo, isComplete, completions, concat, Cutting, bodyOf, Arrived, none, other, piece, Came, Apart, Demand3}
-use Rattle.collector_demands.proofs.Refine.{blank-nothing, refusalOf-long}
+use Rattle.collector_demands.proofs.Stored.{blank-nothing}
+use Rattle.collector_demands.proofs.Refine.{refusalOf-long}
 use Rattle.collector_demands.proofs.Demands.{demand-2-nothing, demand-3}
 
 abbrev pub M : List ℕ

@@ -26,7 +26,8 @@ use Rattle.collection.specs.declared.Collection.{Collection}
 use Rattle.body_tests.proofs.Laws.{refusalOf-room}
 use Rattle.collector_demands.specs.Runs.{full, accepts, lengthsTo, judged, runFrom, runOf, Reply, replyFrom, replyOf, HeldBy, standsFor, Sized}
 use Rattle.collector_demands.specs.Demand.{Lent, called, lentAfter, told, replyTo, isComplete, completions, Cutting, bodyOf, Arrived, none, other, piece, lengthsOf, Passes, Apart, Demand3}
-use Rattle.collector_demands.proofs.Refine.{Rep, rep-held, blank-nothing, refusalOf-long, step}
+use Rattle.collector_demands.proofs.Stored.{Rep, rep-held, blank-nothing}
+use Rattle.collector_demands.proofs.Refine.{refusalOf-long, step}
 use Rattle.collector_demands.proofs.Missing.{lengthsTo-at, message-whole}
 use Rattle.collector_demands.proofs.Made.{rep-idle, rep-any}
 use Rattle.collector_demands.proofs.Kept.{join-kept, whole-all}

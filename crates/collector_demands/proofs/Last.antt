@@ -22,7 +22,7 @@ use Rattle.collector.proofs.LawsStep.{baseOf-number}
 use Rattle.collector_demands.specs.Runs.{Reply}
 use Rattle.collector_demands.specs.Demand.{Lent, replyTo, isComplete, completions, Arrived, none, other, piece, Came, Demand3}
 use Rattle.collector_demands.specs.Last.{IsLast, OnlyThere}
-use Rattle.collector_demands.proofs.Refine.{finished-held}
+use Rattle.collector_demands.proofs.Stored.{finished-held}
 
 pub came-or-not : {count : ℕ} {pieces h : List (List ℕ)} (k : ℕ) (t : Arrived count pieces h) → Came k t ⊎ (Came k t → ⊥)
 unfolding Came

@@ -1,6 +1,6 @@
 -- Missing: laws of a family of slots.
 -- Holds: a record and a slot buffer that hold a run, when a piece is put.
--- Refine: one step does what the run says.
+-- Stored: a piece that is stored and noted.      Refine: one step does what the run says.
 -- Loose: the loose setting is document 01's collector as it was.
 -- Sound: the slots of a well-made record.
 -- Made: every lent record stands for a run, which under the loose setting is a history of its own.
@@ -14,6 +14,7 @@
 -- Between: pieces of whole elements pass the strict test.      Setting: every call keeps the setting.
 pub mod Missing
 pub mod Holds
+pub mod Stored
 pub mod Refine
 pub mod Loose
 pub mod Sound

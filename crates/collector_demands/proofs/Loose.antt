@@ -11,7 +11,7 @@ use lib.ListN.{length}
 use lib.Dec.{eqb}
 use Rattle.collector.specs.Answers.{refused, again, waiting, complete}
 use Rattle.body_tests.specs.Refusals.{numberOf, slotOf, bodyRefusal}
-use Rattle.collector_demands.specs.Runs.{isFull, accepts, lookup, continues, missing, message, judged, settledRun, stored, repeated, runFrom, Reply, reply, replyFrom}
+use Rattle.collector_demands.specs.Runs.{isFull, accepts, lookup, continues, missing, message, judged, settledRun, stored, repeated, runFrom, reply, replyFrom}
 
 settled-same : (run : List (List ℕ)) (n : ℕ) → settledRun false run n ≡ run
 unfolding settledRun judged

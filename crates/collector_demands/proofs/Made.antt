@@ -24,7 +24,7 @@ use Rattle.joining.proofs.Laws.{length-pieceAt-le}
 use Rattle.collector_demands.specs.Runs.{empty, full, accepts, lookup, continues, runFrom, runOf, bodyIn, bodiesTo, standsFor, Sized}
 use Rattle.collector_demands.proofs.Sound.{slotAt, wellMade-few, wellMade-within, wellMade-short, wellMade-flag, wellMade-has}
 use Rattle.collector_demands.proofs.Loose.{loose-run}
-use Rattle.collector_demands.proofs.Refine.{Rep, idle, busy}
+use Rattle.collector_demands.proofs.Stored.{Rep, idle, busy}
 
 module _ (r : Collection) (slots : List ℕ) (made : wellMade r ≡ true) (room : 24000 ≤ length slots) where
   abbrev flag : ℕ → ℕ

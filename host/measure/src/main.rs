@@ -11,6 +11,7 @@ use measure::inputs::{
 };
 use measure::plain;
 use measure::rounds::{longer, median, medians, print_line, report, runner, samples, Runner};
+use std::cell::RefCell;
 use std::hint::black_box;
 
 /// The client that only rule `n` of the measured tables lists.
@@ -106,24 +107,37 @@ fn collected(bodies: &[Vec<u8>]) -> (Collection, Vec<u8>, Vec<u8>) {
     collected_in(false, bodies)
 }
 
-/// The library on these bodies, behind those that are held.
-fn library_takes<'a>(strict: bool, held: &'a [Vec<u8>], bodies: &'a [Vec<u8>]) -> Runner<'a> {
-    let (before, mut slots, mut join) = collected_in(strict, held);
+/// A slot buffer and a join buffer that several runners are lent in turn, so that they differ in nothing but their work.
+type Lent = RefCell<(Vec<u8>, Vec<u8>)>;
+
+/// The library on these bodies, behind those that are held; the slot buffer has them already.
+fn library_takes<'a>(
+    lent: &'a Lent,
+    strict: bool,
+    held: &'a [Vec<u8>],
+    bodies: &'a [Vec<u8>],
+) -> Runner<'a> {
+    let (before, ..) = collected_in(strict, held);
     runner("library", move || {
         let mut held = before;
-        again(bodies, |b| {
-            ffi::collect(&mut held, &mut slots, &mut join, b)
-        });
+        let (slots, join) = &mut *lent.borrow_mut();
+        again(bodies, |b| ffi::collect(&mut held, slots, join, b));
     })
 }
 
-/// Plain Rust on these bodies, behind those that are held.
-fn plain_takes<'a>(strict: bool, held: &'a [Vec<u8>], bodies: &'a [Vec<u8>]) -> Runner<'a> {
-    let (before, mut slots, mut join) = collected_in(strict, held);
+/// Plain Rust on these bodies, behind those that are held; the slot buffer has them already.
+fn plain_takes<'a>(
+    lent: &'a Lent,
+    strict: bool,
+    held: &'a [Vec<u8>],
+    bodies: &'a [Vec<u8>],
+) -> Runner<'a> {
+    let (before, ..) = collected_in(strict, held);
     runner("plain", move || {
         let mut held = before;
+        let (slots, join) = &mut *lent.borrow_mut();
         again(bodies, |b| {
-            plain::collect::collect(&mut held, &mut slots, &mut join, b)
+            plain::collect::collect(&mut held, slots, join, b)
         });
     })
 }
@@ -133,17 +147,19 @@ fn plain_takes<'a>(strict: bool, held: &'a [Vec<u8>], bodies: &'a [Vec<u8>]) -> 
 fn collecting_strictly(what: &str, message: &[u8]) {
     let bodies = sixteen_bodies_of_elements(message);
     let (fifteen, last) = bodies.split_at(15);
-    let (whole, _, join) = collected_in(true, &bodies);
+    let (whole, slots, join) = collected_in(true, &bodies);
+    let message = join.clone();
+    let lent = &RefCell::new((slots, join));
     let length: usize = bodies.iter().map(|body| body.len() - 3).sum();
     let times = samples(&mut [
-        library_takes(false, &[], &bodies),
-        plain_takes(false, &[], &bodies),
-        library_takes(true, &[], &bodies),
-        plain_takes(true, &[], &bodies),
-        library_takes(false, fifteen, last),
-        library_takes(true, fifteen, last),
+        library_takes(lent, false, &[], &bodies),
+        plain_takes(lent, false, &[], &bodies),
+        library_takes(lent, true, &[], &bodies),
+        plain_takes(lent, true, &[], &bodies),
+        library_takes(lent, false, fifteen, last),
+        library_takes(lent, true, fifteen, last),
         runner("plain", || {
-            let (message, lengths) = (black_box(&join[..length]), black_box(&whole.lengths));
+            let (message, lengths) = (black_box(&message[..length]), black_box(&whole.lengths));
             black_box(plain::cuts::first_bad_cut(message, lengths));
         }),
     ]);
