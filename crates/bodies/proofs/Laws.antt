@@ -4,7 +4,7 @@
 --   bodyText-from     the text of a report, count and table that are equal to those of the body
 --   bodyText-reply    the listing by the reply that a run gives to a first body, which names no buffer: a refused body is `refused N at 0`,
 --                     one of several pieces `waiting K`, and a whole message what its reading says
---   first-not-again   a first body is no Repeat
+--   first-not-again, first-not-dropped      a first body is no Repeat, and is not dropped
 -- Trusts: nothing.
 use Prim.Native.Nat.{ℕ, _≤_}
 use mathlib.Core.Path.{_≡_, refl, ap}
@@ -15,7 +15,7 @@ use lib.ListN.{length, getD, replicate, length-replicate}
 use lib.Dec.{eqb}
 use Rattle.table.specs.declared.Table.{Table}
 use Rattle.table.specs.Table.{emptyTable}
-use Rattle.collector.specs.Answers.{Said, refused, again, waiting, complete}
+use Rattle.collector.specs.Answers.{Said, refused, again, waiting, complete, dropped}
 use Rattle.collection.specs.declared.Collection.{Collection}
 use Rattle.collection.specs.Record.{emptyCollection}
 use Rattle.body_tests.specs.Refusals.{numberOf}
@@ -55,16 +55,26 @@ unfolding bodyText received receiveStep lentAfter
 bodyText-reply body =
     ap (λ (r : Reply). reportText (taken (r .answer) emptyTable (r .lent) .report) (getD body 0 0) (taken (r .answer) emptyTable (r .lent) .table)) (first-reply body)
 
-stored-not-again : (run : List (List ℕ)) (n : ℕ) → storedReply false run n .answer ≡ again → ⊥
-unfolding judged
-stored-not-again run n e = go (eqb (missing (lookup run) n) 0) e where
-  go : (b : Bool) → cond b (reply (complete (length (message (lookup run) n))) (message (lookup run) n)) (reply (waiting (missing (lookup run) n)) []) .answer ≡ again → ⊥
-  go true f = let z : _≡_ {A = ℕ} 0 1 = cc in omega arith
-  go false f = let z : _≡_ {A = ℕ} 0 1 = cc in omega arith
+-- a first body is refused, waits or completes: it is answered nothing else
+module _ (x : Said) (no-refused : (n : ℕ) → refused n ≡ x → ⊥) (no-waiting : (k : ℕ) → waiting k ≡ x → ⊥) (no-complete : (n : ℕ) → complete n ≡ x → ⊥) where
+  stored-not : (run : List (List ℕ)) (n : ℕ) → storedReply false run n .answer ≡ x → ⊥
+  unfolding judged
+  stored-not run n = go (eqb (missing (lookup run) n) 0) where
+    go : (b : Bool) → cond b (reply (complete (length (message (lookup run) n))) (message (lookup run) n)) (reply (waiting (missing (lookup run) n)) []) .answer ≡ x → ⊥
+    go true = no-complete (length (message (lookup run) n))
+    go false = no-waiting (missing (lookup run) n)
+
+  first-not : (body : List ℕ) → replyOf false [] body .answer ≡ x → ⊥
+  unfolding replyFrom runFrom continues
+  first-not body = go (accepts body) _ _ where
+    go : (b : Bool) (run : List (List ℕ)) (n : ℕ) → cond b (storedReply false run (numberOf body)) (reply (refused n) []) .answer ≡ x → ⊥
+    go true run n = stored-not run (numberOf body)
+    go false run n = no-refused n
 
 pub first-not-again : (body : List ℕ) → replyOf false [] body .answer ≡ again → ⊥
-unfolding replyFrom runFrom continues
-first-not-again body e = go (accepts body) _ _ e where
-  go : (b : Bool) (run : List (List ℕ)) (n : ℕ) → cond b (storedReply false run (numberOf body)) (reply (refused n) []) .answer ≡ again → ⊥
-  go true run n f = stored-not-again run (numberOf body) f
-  go false run n f = let z : _≡_ {A = ℕ} 0 1 = cc in omega arith
+first-not-again =
+    first-not again (λ n e. let z : _≡_ {A = ℕ} 0 1 = cc in omega arith) (λ k e. let z : _≡_ {A = ℕ} 0 1 = cc in omega arith) (λ n e. let z : _≡_ {A = ℕ} 0 1 = cc in omega arith)
+
+pub first-not-dropped : (body : List ℕ) (cut : ℕ) → replyOf false [] body .answer ≡ dropped cut → ⊥
+first-not-dropped body cut =
+    first-not (dropped cut) (λ n e. let z : _≡_ {A = ℕ} 0 1 = cc in omega arith) (λ k e. let z : _≡_ {A = ℕ} 0 1 = cc in omega arith) (λ n e. let z : _≡_ {A = ℕ} 0 1 = cc in omega arith) body

@@ -6,7 +6,7 @@
 --                      refused body), an unfinished collection with its empty slots, or an accepted table
 --   bodyText body      the listing of the body: that of its report, under its own change count
 --
--- A first body is no Repeat (proofs/Laws.antt), so that case is never shown.
+-- A first body is no Repeat, and a loose collection is not dropped (proofs/Laws.antt), so those cases are never shown.
 -- Tested by: document 01's example, on which dcdlist is run; the samples of examples/bodies.
 -- Trusts: nothing.
 use Prim.Native.Nat.{ℕ}

@@ -16,7 +16,7 @@ pub struct Collection {
     pub strict: u16,
 }
 
-// Nothing collected yet under this count and number.
+// Nothing collected yet under this setting, count and number.
 pub fn begin(strict: u16, count: u8, number: u8) -> Collection
     ensures { λ r. ⌜ r ≡ emptyCollection strict count number ⌝ }
 {
@@ -29,7 +29,7 @@ pub fn begin(strict: u16, count: u8, number: u8) -> Collection
     }
 }
 
-// A record with nothing collected.
+// A record with nothing collected, under a setting.
 pub fn empty_collection(strict: u16) -> Collection
     ensures { λ r. ⌜ r ≡ emptyCollection strict 0 0 ⌝ }
 {

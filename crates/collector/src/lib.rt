@@ -4,8 +4,8 @@
 // (1 to 5), Repeat, Waiting, Complete, or Dropped (21).
 //
 // It takes any record and buffers of any length: bad input is an answer, never a duty of the caller,
-// and after a refusal 1 to 5 record and buffers are as they were; 21 empties the record but for its setting. The slot buffer changes only where a piece
-// is stored, the join buffer only where a message of several pieces is joined.
+// and after a refusal 1 to 5 record and buffers are as they were; 21 empties the record but for its setting. The slot
+// buffer changes only where a piece is stored, the join buffer only where a message of several pieces is joined.
 ghost use mathlib.Core.Path.{_≡_};
 ghost use Prim.Native.Nat.{ℕ, _≤_, _<_};
 ghost use lib.ListN.{length, getD, take};

@@ -1,5 +1,5 @@
 -- The bench example of document 01: M cut after 10 bytes, second piece first: Waiting 1, Complete. It is computed over the runs, and by demand 2
--- it is what the collector answers with any buffers that are long enough. Then an example of demand 3, and why it asks for Apart.
+-- it is what the collector answers with any buffers that are long enough. Then an example of demand 3, and why it asks for Apart. The strict setting: BenchStrict.
 --
 --   M, firstBody, secondBody     the message, and the bodies of its two pieces
 --   cut-example                  the starred example, over `replyOf`
@@ -15,10 +15,7 @@ use mathlib.Core.Logic.{_⊎_, inl, inr}
 use native.Mathlib.Omega.{arith}
 use lib.ListN.{length, getD, take, drop, replicate, take-append-drop}
 use Rattle.compare.specs.Compare.{sameBytes}
-use Rattle.collector.specs.Answers.{refused, again, waiting, complete, dropped, lentOf}
-use Rattle.elements.specs.Elements.{headAt}
-use Rattle.children.specs.Rows.{rowFrom, rowIn}
-use Rattle.cuts.specs.Cuts.{startsAt, judgedTo, mayIn, sumTo, cutsFrom, cutsIn}
+use Rattle.collector.specs.Answers.{refused, again, waiting, complete, lentOf}
 use Rattle.collection.specs.Record.{emptyCollection}
 use Rattle.held.specs.Held.{soundTo, emptySlots, wellMade, isOf}
 use Rattle.joining.specs.Pieces.{pieceAt}
@@ -26,7 +23,7 @@ use Rattle.body_tests.specs.Refusals.{bodyRefusal, refusalOf}
 use Rattle.relation.specs.Relation.{relationTo}
 use Rattle.collector.specs.Step.{accepted, collectStep}
 use Rattle.collection.specs.declared.Collection.{Collection}
-use Rattle.collector_demands.specs.Runs.{accepts, lookup, continues, missing, message, lengthsTo, judged, settledRun, runFrom, reply, replyFrom, replyOf}
+use Rattle.collector_demands.specs.Runs.{accepts, lookup, continues, missing, message, judged, settledRun, runFrom, reply, replyFrom, replyOf}
 use Rattle.wire.proofs.Laws.{clash}
 use Rattle.collector_demands.specs.Demand.{Lent, lentAfter, replyTo, isComplete, completions, concat, Cutting, bodyOf, Arrived, none, other, piece, Came, Apart, Demand3}
 use Rattle.collector_demands.proofs.Stored.{blank-nothing}
@@ -52,17 +49,6 @@ pub cut-example : (replyOf false [] secondBody ≡ reply (waiting 1) []) × (rep
     × (replyOf false (firstBody ∷ secondBody ∷ []) secondBody ≡ reply again [])
 unfolding replyFrom accepts lookup continues runFrom settledRun judged missing message bodyRefusal sameBytes
 cut-example = (refl, refl, refl)
-
--- the same cut under the strict setting: it is inside the first rule, 21 at 10; and the next body starts a run
-pub cut-strict : (replyOf true [] secondBody ≡ reply (waiting 1) []) × (replyOf true (secondBody ∷ []) firstBody ≡ reply (dropped 10) [])
-    × (replyOf true (firstBody ∷ secondBody ∷ []) secondBody ≡ reply (waiting 1) [])
-unfolding replyFrom accepts lookup continues runFrom settledRun judged missing message lengthsTo bodyRefusal sameBytes headAt rowFrom rowIn startsAt judgedTo mayIn sumTo cutsFrom cutsIn
-cut-strict = (refl, refl, refl)
-
--- cut after the first rule it passes
-pub between-strict : replyOf true ((7 ∷ 2 ∷ 2 ∷ drop 22 M) ∷ []) (7 ∷ 2 ∷ 1 ∷ take 22 M) ≡ reply (complete 52) M
-unfolding replyFrom accepts lookup continues runFrom settledRun judged missing message lengthsTo bodyRefusal sameBytes headAt rowFrom rowIn startsAt judgedTo mayIn sumTo cutsFrom cutsIn
-between-strict = refl
 
 module _ (slots join : List ℕ) (room : 24000 ≤ length slots) (space : 24000 ≤ length join) where
   -- what the caller lends: these buffers and this record

@@ -10,6 +10,7 @@
 -- Demands: demand 2 from any lent record; demand 3 from any that is apart.
 -- Last: Complete is reported at the arrival of the last piece missing, and there only.
 -- Bench: the starred example; that demand 3's hypotheses can be met, and that Apart is needed.
+-- BenchStrict: the same under the strict setting, and that Passes is needed.
 -- Controls: one answer only; wrong collectors refuted.
 -- Between: pieces of whole elements pass the strict test.      Setting: every call keeps the setting.
 pub mod Missing
@@ -27,4 +28,5 @@ pub mod Between
 pub mod Setting
 pub mod Last
 pub mod Bench
+pub mod BenchStrict
 pub mod Controls

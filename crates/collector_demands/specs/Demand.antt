@@ -13,7 +13,7 @@
 --   Demand3 s count message pieces     completion is reported exactly once, at the arrival of the last piece missing, with the message
 --
 -- Pieces count from 0, and a history has its newest body first. A piece may be empty.
--- Tested by: an example of each hypothesis, and what fails without Apart, in proofs/Bench.antt.
+-- Tested by: an example of each hypothesis, and what fails without Apart and without Passes, in proofs/Bench.antt and BenchStrict.antt.
 -- Trusts: nothing.
 use Prim.Native.Nat.{ℕ, suc, _+_, _≤_, _<_}
 use mathlib.Core.Path.{_≡_}

@@ -1,7 +1,7 @@
 -- Demand 3 over `collectAfter`, which is the whole promise of `dsg_collect`: the record and the buffers are the collector's, and the numbers
 -- go by what it answers.
 --
---   demand-3-host     from any lent record that holds nothing, or another count or number
+--   demand-3-host     from any lent record that holds nothing, or another count or number; under the strict setting where the cuts pass
 -- Trusts: nothing.
 use Prim.Native.Nat.{ℕ, _+_, _-_, _≤_, min}
 use mathlib.Core.Path.{_≡_, refl, sym, ap, _∙_}

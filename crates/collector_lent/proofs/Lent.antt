@@ -2,7 +2,7 @@
 -- go by what it answers.
 --
 --   message-at        what the collector answers and leaves at the arrival of the last piece missing, and that elsewhere it is not Complete
---   demand-3-parts    from any lent record that holds nothing, or another count or number
+--   demand-3-parts    from any lent record that holds nothing, or another count or number; under the strict setting where the cuts pass
 -- Trusts: nothing.
 use Prim.Native.Nat.{ℕ, _≤_}
 use mathlib.Core.Path.{_≡_, refl, ap}

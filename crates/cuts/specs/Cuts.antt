@@ -8,7 +8,7 @@
 --   cutsIn msg lens n        the ruling on the n - 1 cuts between n pieces of these lengths
 --
 -- Only type and length bytes are looked at. Pieces count from 0; a piece may be empty.
--- Tested by: proofs/Reached.antt, which says the same by a walk; M cut after 10 and after 22 bytes in proofs/Bench.antt of
+-- Tested by: proofs/Reached.antt, which says the same by a walk; M cut after 10 and after 22 bytes in proofs/BenchStrict.antt of
 -- collector_demands; cuttings of every kind against the other program in host/.
 -- Trusts: nothing.
 use Prim.Native.Nat.{ℕ, zero, suc, _+_, _-_}

@@ -58,7 +58,7 @@ fn pass_elements(message: &[u8], from: usize, cut: usize) -> usize
 
 // Judges the cuts between the first `n` pieces of a message: pieces of these lengths, one behind the other; from the
 // seventeenth on they have no bytes. Piece k begins at `cut`, where an element starts, or the message ends. The head at which
-// the walk ends is read twice, every other once.
+// the walk stops may be read twice, every other once.
 pub fn judge_cuts(message: &[u8], lengths: [u16; 16], n: usize) -> Cuts
     ensures { λ r. ⌜ ruling r ≡ cutsIn (now (message .entry)) lengths n ⌝ }
 {

@@ -8,7 +8,7 @@
 --   readTable-refused      a message: 3 at 0, or 6 to 15 at a byte of the message; the table is the given one
 --   listing-refused        a listing: 100, a number of our own; the buffer is as it was
 --
--- A body that goes all the way is in Demand1Receive; clients, frames and events in Demand1Frames; the numbers as a C host has them in Demand1C.
+-- Refusal 21, which empties the record, is in Demand1Dropped; a body that goes all the way in Demand1Receive; clients, frames and events in Demand1Frames; the numbers as a C host has them in Demand1C.
 -- That every entry takes any input is seen in its signature: no public function has a `requires` (docs/CONTRACTS.md); that it ends is part of
 -- `met`. The theorems are about the definitions, which Demand2, Demand2Frames, Parts, PartsPieces and Exported say are what the entries give.
 -- Trusts: nothing.

@@ -2,7 +2,8 @@
 -- arrival of the last piece missing, and what is read then is what the uncut message gives.
 --
 --   EndToEnd     the collector's part (crate collector_demands, specs/Demand.antt: silent, once, last), and what reading gives at completion
---   demand-3     it holds from any lent record that holds nothing, or a collection under another count or number, with buffers long enough
+--   demand-3     it holds from any lent record that holds nothing, or a collection under another count or number, with buffers long enough; under
+--                the strict setting for a message that is cut where it may be (Passes; document 02, Req 04), and so all that follow
 --   demand-3-there      Complete is reported at a position if and only if it is the arrival of the last piece missing
 --   demand-3-lent       the same over what is lent (`lentStep`): there Complete is answered and the part of the body or of the join buffer is the
 --                       uncut message; elsewhere it is not, and both parts are empty

@@ -1,13 +1,15 @@
--- Receive: what one body does to a collection and a table (document 01, "Collecting pieces" and "Refusal numbers").
+-- Receive: what one body does to a collection and a table (document 01, "Collecting pieces" and "Refusal numbers"; document 02, Req 04).
 --
 --   Told, told r          each case of a report, with its number or values: a refused body with its number, 1 to 5 (its offset is 0); Repeat;
---                         Waiting with the empty slots; an accepted message; a refused message with its number and its offset in the message
+--                         Waiting with the empty slots; an accepted message; a refused message with its number and its offset in the message;
+--                         a dropped collection, which is refusal 21, with the offset of its first bad cut
 --   taken a t message     the report and the table after the collector's answer: only a complete message is read, and only an
 --                         accepted one changes the table
 --   receiveStep held t slots join body     the report, the record, the table and both buffers after the call
 --
 -- The record and the buffers are those that `collectStep` leaves, whatever the reader says: where the message is complete and refused the
--- collector took the body, so its piece stays held, and the same piece again is a Repeat. A refusal of the body itself leaves all as it was.
+-- collector took the body, so its piece stays held, and the same piece again is a Repeat. A body refused with 1 to 5 leaves all as it
+-- was; one refused with 21 leaves the table, which nothing is read into.
 -- Tested by: the samples of examples/bodies; bodies and messages against the other program in host/.
 -- Trusts: nothing.
 use Prim.Native.Nat.{ℕ}

@@ -1,7 +1,8 @@
 // One body all the way: collected, and the message read when it is complete.
 //
 // One public function, `receive`. It takes any record, table, buffers and body: bad input is an answer, never a duty of
-// the caller. A refused body changes nothing that is lent. A refused message leaves the table as it was given; its pieces
+// the caller. A body refused with 1 to 5 changes nothing that is lent; one with 21 empties the record but for its setting, and leaves
+// the table. A refused message leaves the table as it was given; its pieces
 // stay collected, so that a further copy of one is a Repeat. Nothing is read before the message is complete.
 ghost use mathlib.Core.Path.{_≡_};
 ghost use Rattle.collector.specs.Answers.{said, lentOf};

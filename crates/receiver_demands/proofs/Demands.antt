@@ -1,7 +1,8 @@
 -- Demand 3 end to end: `receiveStep`, which is the whole promise of `receive`, over the bodies of a cut message.
 --
 --   demand-3-read     from any lent record that holds nothing, or another count or number, a cut message is read exactly once, at the
---                     arrival of the last piece missing, and the report and the table are those of the uncut message
+--                     arrival of the last piece missing, and the report and the table are those of the uncut message; under the strict
+--                     setting where the cuts pass
 -- Trusts: nothing.
 use Prim.Native.Nat.{ℕ, _≤_, _<_}
 use mathlib.Core.Path.{_≡_, sym, ap, subst, _∙_}
