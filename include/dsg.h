@@ -37,7 +37,7 @@
  *
  * Memory that a board needs: the records below and two buffers of DSG_BUFFER_BYTES, some 55,000 bytes. Stack, as
  * examples/stack.c measures it on x86-64 and on Arm: dsg_list_body 140,000 bytes, dsg_receive 92,100, dsg_read 65,200,
- * dsg_judge 26,200, dsg_prepare 21,400, dsg_list_table 20,600, dsg_empty_table 19,700, dsg_choose 12,600, dsg_collect 1,800;
+ * dsg_judge 26,200, dsg_prepare 21,400, dsg_list_table 20,600, dsg_empty_table 19,700, dsg_choose 12,600, dsg_collect 1,700;
  * what runs for each frame and event (dsg_judge_prepared, dsg_event, dsg_transmits, dsg_forwards) under 200. Of the C library
  * only memcpy, memmove and memset are called.
  */
