@@ -110,35 +110,22 @@ fn collected(bodies: &[Vec<u8>]) -> (Collection, Vec<u8>, Vec<u8>) {
 /// A slot buffer and a join buffer that several runners are lent in turn, so that they differ in nothing but their work.
 type Lent = RefCell<(Vec<u8>, Vec<u8>)>;
 
-/// The library on these bodies, behind those that are held; the slot buffer has them already.
-fn library_takes<'a>(
-    lent: &'a Lent,
-    strict: bool,
-    held: &'a [Vec<u8>],
-    bodies: &'a [Vec<u8>],
-) -> Runner<'a> {
-    let (before, ..) = collected_in(strict, held);
-    runner("library", move || {
-        let mut held = before;
-        let (slots, join) = &mut *lent.borrow_mut();
-        again(bodies, |b| ffi::collect(&mut held, slots, join, b));
-    })
-}
+/// What takes a body: the library, or plain Rust.
+type Collect<A> = fn(&mut Collection, &mut [u8], &mut [u8], &[u8]) -> A;
 
-/// Plain Rust on these bodies, behind those that are held; the slot buffer has them already.
-fn plain_takes<'a>(
+/// These bodies behind those that are held; the slot buffer has them already.
+fn takes<'a, A: 'a>(
+    (name, collect): (&'static str, Collect<A>),
     lent: &'a Lent,
     strict: bool,
     held: &'a [Vec<u8>],
     bodies: &'a [Vec<u8>],
 ) -> Runner<'a> {
     let (before, ..) = collected_in(strict, held);
-    runner("plain", move || {
+    runner(name, move || {
         let mut held = before;
         let (slots, join) = &mut *lent.borrow_mut();
-        again(bodies, |b| {
-            plain::collect::collect(&mut held, slots, join, b)
-        });
+        again(bodies, |b| collect(&mut held, slots, join, b));
     })
 }
 
@@ -151,13 +138,15 @@ fn collecting_strictly(what: &str, message: &[u8]) {
     let message = join.clone();
     let lent = &RefCell::new((slots, join));
     let length: usize = bodies.iter().map(|body| body.len() - 3).sum();
+    let library: (_, Collect<_>) = ("library", ffi::collect);
+    let plain: (_, Collect<_>) = ("plain", plain::collect::collect);
     let times = samples(&mut [
-        library_takes(lent, false, &[], &bodies),
-        plain_takes(lent, false, &[], &bodies),
-        library_takes(lent, true, &[], &bodies),
-        plain_takes(lent, true, &[], &bodies),
-        library_takes(lent, false, fifteen, last),
-        library_takes(lent, true, fifteen, last),
+        takes(library, lent, false, &[], &bodies),
+        takes(plain, lent, false, &[], &bodies),
+        takes(library, lent, true, &[], &bodies),
+        takes(plain, lent, true, &[], &bodies),
+        takes(library, lent, false, fifteen, last),
+        takes(library, lent, true, fifteen, last),
         runner("plain", || {
             let (message, lengths) = (black_box(&message[..length]), black_box(&whole.lengths));
             black_box(plain::cuts::first_bad_cut(message, lengths));
