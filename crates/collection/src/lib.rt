@@ -1,7 +1,8 @@
 // The record of a collection (document 01, "Collecting pieces").
 //
-// Two public functions. `empty_collection` gives a record with nothing collected under a setting, `begin` one under a count and number
-// too. They take any numbers, and write nothing.
+// Two public functions. `empty_collection` gives a record with nothing collected under a setting, `begin` one under the setting of a
+// record, a count and a number: what a new run starts from, and what refusal 21 leaves. They take any record and numbers, and write
+// nothing.
 ghost use mathlib.Core.Path.{_≡_};
 ghost use Rattle.collection.specs.Record.{emptyCollection};
 
@@ -17,7 +18,7 @@ pub struct Collection {
 }
 
 // Nothing collected yet under this setting, count and number.
-pub fn begin(strict: u16, count: u8, number: u8) -> Collection
+fn nothing(strict: u16, count: u8, number: u8) -> Collection
     ensures { λ r. ⌜ r ≡ emptyCollection strict count number ⌝ }
 {
     Collection {
@@ -29,9 +30,16 @@ pub fn begin(strict: u16, count: u8, number: u8) -> Collection
     }
 }
 
+// Nothing collected yet under this count and number; the setting is the record's.
+pub fn begin(held: Collection, count: u8, number: u8) -> Collection
+    ensures { λ r. ⌜ r ≡ emptyCollection (held .strict) count number ⌝ }
+{
+    nothing(held.strict, count, number)
+}
+
 // A record with nothing collected, under a setting.
 pub fn empty_collection(strict: u16) -> Collection
     ensures { λ r. ⌜ r ≡ emptyCollection strict 0 0 ⌝ }
 {
-    begin(strict, 0, 0)
+    nothing(strict, 0, 0)
 }

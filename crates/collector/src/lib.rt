@@ -60,7 +60,7 @@ fn base(how: u8, held: Collection, count: u8, number: u8) -> Collection
     if how == relation::GOES_ON {
         return held;
     }
-    collection::begin(held.strict, count, number)
+    collection::begin(held, count, number)
 }
 
 // What a message of several pieces comes to, which are joined in the first `size` bytes of the join buffer.
@@ -106,7 +106,7 @@ fn leave(answer: Answer, next: Collection) -> Collection
     let Answer::Dropped(_) = answer else {
         return next;
     };
-    collection::empty_collection(next.strict)
+    collection::begin(next, 0, 0)
 }
 
 // Notes the piece in the record that it goes on with or begins and stores it in slot `k`; the answer, and the record after it.

@@ -17,20 +17,6 @@ pub enum Cuts {
     Bad(usize),
 }
 
-// The length of a piece as a number of bytes.
-fn wide(length: u16) -> usize
-    ensures { λ r. ⌜ r ≡ length ⌝ }
-{
-    length as usize
-}
-
-// A length byte as a number of bytes.
-fn wide_byte(byte: u8) -> usize
-    ensures { λ r. ⌜ r ≡ byte ⌝ }
-{
-    byte as usize
-}
-
 // Passes whole elements from the start `from` on that end at the cut or before it: where the first stands that does not, or
 // the cut. `place` is that of a length byte: what is carried on is not the start, so that the next one is read as soon as this
 // one is known.
@@ -45,7 +31,7 @@ fn pass_elements(message: &[u8], from: usize, cut: usize) -> usize
         if stop < next {
             return place - 1;
         }
-        let len = wide_byte(message[place]);
+        let len = message[place] as usize;
         if stop - next < len {
             return place - 1;
         }
@@ -72,7 +58,7 @@ pub fn judge_cuts(message: &[u8], lengths: [u16; 16], n: usize) -> Cuts
             return Cuts::Good;
         }
         let from = cut;
-        cut += wide(lengths[k]);
+        cut += lengths[k] as usize;
         k += 1;
         if message.len() < cut {
             return Cuts::Good;

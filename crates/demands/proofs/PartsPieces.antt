@@ -41,7 +41,7 @@ use Rattle.notices.proofs.list_waiting.Reads as list_waiting
 pub judge_cuts-gives : (κs : Lfts 1) → Gives {L = Ruling} (λ x s. ruling x) (judge_cuts.Post κs) (λ a. cutsIn (now (a .0)) (a .1 .0) (a .1 .1 .0))
 judge_cuts-gives κs a x s h = h
 
-pub begin-gives : (κs : Lfts 0) → Gives answer (begin.Post κs) (λ a. emptyCollection (a .0) (a .1 .0) (a .1 .1 .0))
+pub begin-gives : (κs : Lfts 0) → Gives answer (begin.Post κs) (λ a. emptyCollection (a .0 .strict) (a .1 .0) (a .1 .1 .0))
 begin-gives κs a x s h = h
 
 pub is_of-gives : (κs : Lfts 0) → Gives answer (is_of.Post κs) (λ a. isOf (a .0) (a .1 .0) (a .1 .1 .0))

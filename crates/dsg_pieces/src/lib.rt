@@ -116,6 +116,22 @@ fn complete_from(place: Place) -> Collected
     }
 }
 
+// The record, field by field. A record that is copied whole goes by blocks of sixteen bytes, and the collector reads its fields, which
+// lie across two of them: a processor waits for both to be written.
+fn apart(held: Collection) -> Collection
+    ensures { λ r. ⌜ r ≡ held ⌝ }
+{
+    let filled = held.filled;
+    let lengths = held.lengths;
+    Collection {
+        count: held.count,
+        number: held.number,
+        filled,
+        lengths,
+        strict: held.strict,
+    }
+}
+
 // One body for a record by value.
 pub fn collect_value(
     held: Collection,
@@ -125,7 +141,7 @@ pub fn collect_value(
 ) -> CollectStepped
     ensures { λ r. ⌜ record { answer = r .answer; held = r .held; slots = now (slots .exit); join = now (join .exit) } ≡ collectAfter held (now (slots .entry)) (now (join .entry)) (now (body .entry)) ⌝ }
 {
-    let outcome = collector::collect(held, slots, join, body);
+    let outcome = collector::collect(apart(held), slots, join, body);
     let answer = outcome.answer;
     let next = outcome.held;
     let collected = collected_from(answer, next.number);

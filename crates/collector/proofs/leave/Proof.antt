@@ -32,7 +32,7 @@ returns c = stays (c .before .args .answer) (c .before .args .next) (c .match .k
 
 -- dropped
 returns-2 : tie.Need-returns-2
-returns-2 c = rw (c .before .enum-told .given .1) (c .empty-collection .ensures)
+returns-2 c = rw (c .before .enum-told .given .1) (c .begin .ensures)
 
 pub leave-spec : {M : Type 1} → statement M
 leave-spec = tie.close (tie.spec (λ c. search needs) returns (λ c κs. search needs) returns-2)
