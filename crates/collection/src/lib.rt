@@ -18,7 +18,7 @@ pub struct Collection {
 }
 
 // Nothing collected yet under this setting, count and number.
-fn nothing(strict: u16, count: u8, number: u8) -> Collection
+fn fresh(strict: u16, count: u8, number: u8) -> Collection
     ensures { λ r. ⌜ r ≡ emptyCollection strict count number ⌝ }
 {
     Collection {
@@ -34,12 +34,12 @@ fn nothing(strict: u16, count: u8, number: u8) -> Collection
 pub fn begin(held: Collection, count: u8, number: u8) -> Collection
     ensures { λ r. ⌜ r ≡ emptyCollection (held .strict) count number ⌝ }
 {
-    nothing(held.strict, count, number)
+    fresh(held.strict, count, number)
 }
 
 // A record with nothing collected, under a setting.
 pub fn empty_collection(strict: u16) -> Collection
     ensures { λ r. ⌜ r ≡ emptyCollection strict 0 0 ⌝ }
 {
-    nothing(strict, 0, 0)
+    fresh(strict, 0, 0)
 }

@@ -116,8 +116,8 @@ fn complete_from(place: Place) -> Collected
     }
 }
 
-// The record, field by field. A record that is copied whole goes by blocks of sixteen bytes, and the collector reads its fields, which
-// lie across two of them: a processor waits for both to be written.
+// The same record, copied field by field. Copied whole it is stored in blocks of sixteen bytes; its fields lie across two of them, and a
+// processor that reads such a field waits until both are written.
 fn apart(held: Collection) -> Collection
     ensures { λ r. ⌜ r ≡ held ⌝ }
 {
