@@ -116,8 +116,8 @@ fn complete_from(place: Place) -> Collected
     }
 }
 
-// The same record, copied field by field. Copied whole it is stored in blocks of sixteen bytes; its fields lie across two of them, and a
-// processor that reads such a field waits until both are written.
+// The same record, copied field by field. Copied whole it is stored in blocks of sixteen bytes: `filled` and `lengths` lie across them,
+// and a processor that reads such a list waits until its blocks are written.
 fn apart(held: Collection) -> Collection
     ensures { λ r. ⌜ r ≡ held ⌝ }
 {
