@@ -2,6 +2,8 @@
 //
 // One public function, `list_body`. It takes any body and any buffer; a buffer under `notices::LISTING_BYTES` is refused and
 // stays as it was. It needs some 141,000 bytes of stack: two buffers of 24,000, and a table that goes by value from call to call.
+#![tactic(auto)]
+
 ghost use Rattle.std.specs.Prelude.{◌≡◌, get_or};
 ghost use Rattle.receiver.specs.Receive.{told};
 ghost use Rattle.notices.specs.Listing.{written, listing};

@@ -2,6 +2,8 @@
 //
 // One public function, `refuse`: it says by which of tests 1 to 5 a body is refused. It takes any lengths of buffers and any body, and
 // writes nothing.
+#![tactic(auto)]
+
 ghost use Rattle.std.specs.Prelude.{◌≡◌};
 ghost use Rattle.body_tests.specs.Refusals.{body_refusal, refusal_of};
 

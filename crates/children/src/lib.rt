@@ -1,1 +1,3 @@
 // Definitions and laws only: the children of a row, in byte order.
+#![tactic(auto)]
+

@@ -3,6 +3,8 @@
 // Two public functions. `choose_rule` takes any lent table, client and UCID, and answers the rule's place
 // or refusal 17; `rule_at` gives the rule there. Both take any input; a count above its limit is read as the
 // limit. Nothing is written.
+#![tactic(auto)]
+
 ghost use Rattle.std.specs.Prelude.{◌≡◌, false, ◌&&◌, ◌||◌, eqb};
 ghost use Rattle.order.specs.Best.{is_better, best_after};
 ghost use Rattle.choice.specs.Choose.{is_client, lists_client, lists_ucid, admits_ucid, fits_client, choice_of, rule_at};
@@ -12,7 +14,7 @@ use order::{Best, is_better};
 use table::{Client, Rule, Table, empty_rule, limited};
 
 // What is known of the upstream channel.
-#[derive(Drop)]
+#[derive(Clone, Copy)]
 pub enum Ucid {
     // No upstream channel is known.
     Unknown,
@@ -21,7 +23,7 @@ pub enum Ucid {
 }
 
 // The answer of `choose_rule`.
-#[derive(Drop)]
+#[derive(Clone, Copy)]
 pub enum Choice {
     // The place of the rule in the table, from 0.
     Chosen(usize),

@@ -4,6 +4,8 @@
 // the element there in byte order. It makes no test: what a message that passed its tests cannot hold is
 // passed over, and where no element stands the answer is the empty classifier. It writes nothing; each
 // walk changes one local.
+#![tactic(auto)]
+
 ghost use Rattle.std.specs.Prelude.{◌≡◌, ◌+◌, ◌≤◌, length};
 ghost use Rattle.table.specs.Table.{empty_classifier};
 ghost use Rattle.children.specs.Rows.{row_in, row_fold};

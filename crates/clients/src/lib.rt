@@ -3,6 +3,8 @@
 // One public function, `read_clients`: it takes any message and any two places, and takes up the children
 // between them in byte order. It makes no test: what a message that passed its tests cannot hold is
 // passed over. It writes nothing; the walk changes one local.
+#![tactic(auto)]
+
 ghost use Rattle.std.specs.Prelude.{◌≡◌, ◌+◌, ◌≤◌, length};
 ghost use Rattle.clients.specs.Clients.{no_clients, is_client, client_at, clients_in};
 
@@ -10,7 +12,7 @@ use elements::Head;
 use table::Client;
 
 // The client IDs of one rule. Places from the count on hold 0.
-#[derive(Drop)]
+#[derive(Clone, Copy)]
 pub struct Clients {
     pub count: u8,
     pub list: [Client; 8],

@@ -3,13 +3,15 @@
 // Two public functions. `empty_collection` gives a record with nothing collected under a setting, `begin` one under the setting of a
 // record, a count and a number: what a new run starts from, and what refusal 21 leaves. They take any record and numbers, and write
 // nothing.
+#![tactic(auto)]
+
 ghost use Rattle.std.specs.Prelude.{◌≡◌};
 ghost use Rattle.collection.specs.Record.{empty_collection};
 
 // What is held: the count and number of a collection, and for each of sixteen slots whether it is
 // filled (1; 0 is empty) and its length. Number 0 means nothing collected. The setting: 0 is loose, any other number strict.
 #[repr(C)]
-#[derive(Drop)]
+#[derive(Clone, Copy)]
 pub struct Collection {
     pub count: u8,
     pub number: u8,

@@ -6,6 +6,8 @@
 // It takes any record and buffers of any length: bad input is an answer, never a duty of the caller,
 // and after a refusal 1 to 5 record and buffers are as they were; 21 empties the record but for its setting. The slot
 // buffer changes only where a piece is stored, the join buffer only where a message of several pieces is joined.
+#![tactic(auto)]
+
 ghost use Rattle.std.specs.Prelude.{◌≡◌, ℕ, ◌≤◌, ◌<◌, length, get_or, take};
 ghost use Rattle.held.specs.Held.{empty_slots};
 ghost use Rattle.collector.specs.Answers.{said};
@@ -16,7 +18,7 @@ use collection::Collection;
 use cuts::Cuts;
 
 // What a body is answered.
-#[derive(Drop)]
+#[derive(Clone, Copy)]
 pub enum Answer {
     // Not taken: the number of the first test that it fails, 1 to 5.
     Refused(u8),
@@ -32,7 +34,7 @@ pub enum Answer {
 }
 
 // The answer, and the record after the call.
-#[derive(Drop)]
+#[derive(Clone, Copy)]
 pub struct Outcome {
     pub answer: Answer,
     pub held: Collection,

@@ -1,6 +1,8 @@
 // Whether two parts have the same bytes.
 //
 // One public function: `same_bytes`. It takes any two slices and refuses nothing: another length is another part. It writes nothing.
+#![tactic(auto)]
+
 ghost use Rattle.std.specs.Prelude.{◌≡◌, ◌+◌, ◌≤◌, length, take, drop};
 ghost use Rattle.compare.specs.Compare.{same_bytes};
 

@@ -4,6 +4,8 @@
 // of the element there in byte order. It makes no test: what a message that passed its tests cannot hold
 // is passed over, and where no element stands the answer is the empty configuration. It writes nothing;
 // the walk changes one local.
+#![tactic(auto)]
+
 ghost use Rattle.std.specs.Prelude.{◌≡◌, ◌+◌, ◌≤◌, length};
 ghost use Rattle.children.specs.Rows.{row_in, row_fold};
 ghost use Rattle.configurations.specs.Configurations.{empty_configuration, with_timer, with_configuration_child, configuration_at};
@@ -12,7 +14,7 @@ use elements::Head;
 use table::TimerValues;
 
 // The channels and the timer values. Places from the count on hold 0.
-#[derive(Drop)]
+#[derive(Clone, Copy)]
 pub struct Configuration {
     pub channelcount: u8,
     pub channels: [u32; 32],

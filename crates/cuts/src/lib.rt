@@ -2,6 +2,8 @@
 //
 // One public function, `judge_cuts`. It takes any message, lengths and number and refuses nothing: that a cut is bad is an
 // answer. It looks only at the heads of top-level elements, one after the other, and writes nothing.
+#![tactic(auto)]
+
 ghost use Rattle.std.specs.Prelude.{◌≡◌, ◌≤◌, length};
 ghost use Rattle.cuts.specs.Cuts.{ruling, cuts_in};
 ghost use Rattle.cuts.specs.Duties.{Passed};
@@ -9,7 +11,7 @@ ghost use Rattle.cuts.specs.Duties.{Passed};
 use elements::Head;
 
 // What the cuts of a message come to.
-#[derive(Drop)]
+#[derive(Clone, Copy)]
 pub enum Cuts {
     // Each is where a piece may end.
     Good,

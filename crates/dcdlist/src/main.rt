@@ -3,6 +3,8 @@
 // The body ends where the input does, however many reads it takes; what comes after its first 1,501 bytes is not read, since a
 // body of more than 1,500 is refused whatever it holds. Where a read fails nothing is written; where a write fails the
 // program ends.
+#![tactic(auto)]
+
 ghost use Rattle.std.specs.Prelude.{◌≤◌, length};
 ghost use Rattle.dcdlist.specs.Input.{bytes_read};
 
@@ -10,7 +12,7 @@ use libc::{STDIN_FILENO, STDOUT_FILENO};
 use notices::{LISTING_BYTES, Listed};
 
 // What was read.
-#[derive(Drop)]
+#[derive(Clone, Copy)]
 enum Input {
     // The input ended, or the buffer is full: so many bytes.
     Bytes(usize),

@@ -8,6 +8,8 @@
 // Every function takes any record, any numbers and any bytes, refuses by number, and after a refusal
 // leaves what was lent as it was (but 21 empties the collection, and the pieces of a message that is refused stay collected). A record behind a reference is copied whole, one function by value is
 // called, and its record is stored whole; of a prepared tunnel the arrays are lent on instead.
+#![tactic(auto)]
+
 pub mod events;
 pub mod frames;
 pub mod pieces;

@@ -1,13 +1,15 @@
 // The answer to an event as a number, for a modem record by value.
 //
 // `event_value`. An event is a number and four arguments; at one that names none only the clock and the running timers move.
+#![tactic(auto)]
+
 ghost use Rattle.std.specs.Prelude.{◌≡◌};
 ghost use Rattle.dsg_events.specs.Events.{event_stepped};
 
 use modem_record::Modem;
 
 // The number that an event is answered, 0 or the refusal, and the record after it.
-#[derive(Drop)]
+#[derive(Clone, Copy)]
 pub struct EventStepped {
     pub number: u32,
     pub modem: Modem,

@@ -2,6 +2,8 @@
 //
 // `choose_value`, `judge_value`, `prepare_value` and `judge_parts`. A client is a kind and a value; a UCID counts where its mark
 // is not 0. They take any table, any numbers and any frame. The payload is told by its place in the frame.
+#![tactic(auto)]
+
 ghost use Rattle.std.specs.Prelude.{◌≡◌, length};
 ghost use Rattle.tunnel_parts.specs.Prepared.{lent_tunnel, prepared_verdict};
 ghost use Rattle.preparing.specs.Preparing.{prepared_tunnel};
@@ -13,7 +15,7 @@ use tunnel_parts::Tunnel;
 
 // What a choice is answered: number 0 and the rule's place in the table, or the refusal.
 #[repr(C)]
-#[derive(Drop)]
+#[derive(Clone, Copy)]
 pub struct Choice {
     pub number: u32,
     pub place: usize,
@@ -22,7 +24,7 @@ pub struct Choice {
 // What a frame is answered. Kind 0: refused, `number` says why. 1: of another tunnel. 2: forwarded, by the
 // classifier `number` or by none; the payload is `length` bytes from `start`. 3: filtered.
 #[repr(C)]
-#[derive(Drop)]
+#[derive(Clone, Copy)]
 pub struct Verdict {
     pub kind: u32,
     pub number: u32,

@@ -2,6 +2,8 @@
 //
 // `collect_value` and `receive_value`. They take any record, table, buffers and body, and answer what the collector and the
 // receiver answer; an enum cannot cross to C, so each answer is a struct of numbers, of which specs/ says what they mean.
+#![tactic(auto)]
+
 ghost use Rattle.std.specs.Prelude.{◌≡◌};
 ghost use Rattle.collector.specs.Answers.{said};
 ghost use Rattle.messages.specs.Place.{placed};
@@ -18,7 +20,7 @@ use table::Table;
 // 3, 4: complete; the message is `length` bytes from `start` of the body (3) or of the join buffer (4).
 // 5: dropped, by `number` (21) at byte `offset`.
 #[repr(C)]
-#[derive(Drop)]
+#[derive(Clone, Copy)]
 pub struct Collected {
     pub kind: u32,
     pub number: u32,
@@ -32,7 +34,7 @@ pub struct Collected {
 // for `empty` slots. 3: the table is the message's. 4: the message is refused, by `number` at byte `offset`.
 // 5: the collection is dropped, by `number` (21) at byte `offset`.
 #[repr(C)]
-#[derive(Drop)]
+#[derive(Clone, Copy)]
 pub struct Received {
     pub kind: u32,
     pub number: u32,
@@ -41,7 +43,7 @@ pub struct Received {
 }
 
 // An answer, and the record and the table after it.
-#[derive(Drop)]
+#[derive(Clone, Copy)]
 pub struct ReceiveStepped {
     pub answer: Received,
     pub held: Collection,
@@ -49,7 +51,7 @@ pub struct ReceiveStepped {
 }
 
 // An answer, and the record after it.
-#[derive(Drop)]
+#[derive(Clone, Copy)]
 pub struct CollectStepped {
     pub answer: Collected,
     pub held: Collection,

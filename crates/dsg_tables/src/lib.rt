@@ -3,6 +3,8 @@
 //
 // `read_value`, `list_value`, `list_body_value` and `write_value`. They take any table, count, bytes and buffer, and answer what the
 // reader, the listing and the writer answer, as structs of numbers.
+#![tactic(auto)]
+
 ghost use Rattle.std.specs.Prelude.{◌≡◌};
 ghost use Rattle.notices.specs.Listing.{written};
 ghost use Rattle.dsg_tables.specs.Tables.{read_answer, read_stepped, listed_as, list_after, body_after, write_after};
@@ -11,14 +13,14 @@ use table::Table;
 
 // What a message is answered: number 0, or the refusal and the offset that it concerns.
 #[repr(C)]
-#[derive(Drop)]
+#[derive(Clone, Copy)]
 pub struct ReadAnswer {
     pub number: u32,
     pub offset: usize,
 }
 
 // An answer, and the table after it.
-#[derive(Drop)]
+#[derive(Clone, Copy)]
 pub struct ReadStepped {
     pub answer: ReadAnswer,
     pub table: Table,
@@ -56,7 +58,7 @@ pub fn read_value(table: Table, message: &[u8]) -> ReadStepped
 
 // What a listing is answered: number 0 and the length of the text, or the refusal.
 #[repr(C)]
-#[derive(Drop)]
+#[derive(Clone, Copy)]
 pub struct Listed {
     pub number: u32,
     pub length: usize,
@@ -93,7 +95,7 @@ pub fn list_body_value(body: &[u8], out: &mut [u8]) -> Listed
 
 // What a writing is answered: number 0, how many bodies were written and the length of each, or the refusal.
 #[repr(C)]
-#[derive(Drop)]
+#[derive(Clone, Copy)]
 pub struct Written {
     pub number: u32,
     pub pieces: u32,

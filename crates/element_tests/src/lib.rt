@@ -3,6 +3,8 @@
 // Two public functions: `own_tests`, which takes any message, type, place, length and count, and `no_channel`, test 11 of any
 // number as a frequency. They write nothing: a refusal is an answer. That a value is a row, and what stands in it, is not
 // their matter.
+#![tactic(auto)]
+
 ghost use Rattle.std.specs.Prelude.{◌≡◌, ℕ, ◌+◌};
 ghost use Rattle.numbers.specs.Numbers.{number_at};
 ghost use Rattle.element_tests.specs.Tests.{second_copy, wrong_length, no_channel, bad_value, is_full, own_tests};
@@ -11,7 +13,7 @@ use types::{Known, Length, Values};
 
 // What an element comes to: 0, or a refusal number and its offset; and the list that it is counted in, with the
 // count after it.
-#[derive(Drop)]
+#[derive(Clone, Copy)]
 pub struct Step {
     pub bad: u8,
     pub off: usize,

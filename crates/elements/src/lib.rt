@@ -2,12 +2,14 @@
 //
 // `read_head` takes any message, any place and any end of a row and has no `requires`: bad input is
 // an answer (6, 7 or 8), never a duty of the caller. It looks at no value and writes nothing.
+#![tactic(auto)]
+
 ghost use Rattle.std.specs.Prelude.{◌≡◌, min};
 ghost use Rattle.elements.specs.Elements.{head_at};
 ghost use Rattle.elements.specs.Stood.{stood};
 
 // What stands at a place of a row.
-#[derive(Drop)]
+#[derive(Clone, Copy)]
 pub enum Head {
     // No byte is left: the row ends here.
     End,

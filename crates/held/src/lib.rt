@@ -2,6 +2,8 @@
 //
 // One public function, `is_of`: a record that no calls could have made holds nothing. It takes any record and any numbers, and writes
 // nothing.
+#![tactic(auto)]
+
 ghost use Rattle.std.specs.Prelude.{◌≡◌, ◌≤◌, ◌<◌, ltb};
 ghost use Rattle.held.specs.Held.{empty_slots, most_flag, most_length, slot_sound, sound_to, well_made, is_of};
 

@@ -3,6 +3,8 @@
 // One public function, `join_pieces`. It takes any buffers, lengths and number and refuses nothing: a piece is cut where the slot
 // buffer ends, there are sixteen slots for any greater number, and a piece that does not fit leaves the join buffer as it was. It
 // writes only where pieces go.
+#![tactic(auto)]
+
 ghost use Rattle.std.specs.Prelude.{◌≡◌, min};
 ghost use Rattle.joining.specs.Pieces.{join_step};
 

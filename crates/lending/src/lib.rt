@@ -5,6 +5,8 @@
 //
 // It takes any record and buffers: where no message is complete, nothing is lent. Nothing is written but what
 // `collector::collect` writes.
+#![tactic(auto)]
+
 ghost use Rattle.std.specs.Prelude.{◌≡◌};
 ghost use Rattle.collector.specs.Answers.{said};
 ghost use Rattle.wire.specs.Parts.{part};
@@ -25,7 +27,7 @@ fn share<'j>(join: &'j mut [u8]) -> &'j [u8]
 // else as a part of the join buffer; the other is empty, and both are where none is complete. The join buffer
 // is lent back whole beside it, since the message's borrow spends the caller's: while that lives every byte is said, and what
 // the buffer holds afterwards is not.
-#[derive(Drop)]
+#[derive(Clone, Copy)]
 pub struct Lent<'b, 'j> {
     pub outcome: Outcome,
     pub own: &'b [u8],

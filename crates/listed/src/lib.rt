@@ -2,6 +2,8 @@
 //
 // Public functions: `is_listed`, for tests 14 and 15, and `names_number`, for the classifiers of a rule. Both take any
 // input: a count above its limit is read as the limit. They write nothing.
+#![tactic(auto)]
+
 ghost use Rattle.std.specs.Prelude.{◌≡◌};
 ghost use Rattle.table.specs.Table.{limited_to};
 ghost use Rattle.listed.specs.Listed.{is_among, names_number};

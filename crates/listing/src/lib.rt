@@ -3,6 +3,8 @@
 // One public function, `list_table`. It takes any table, any change count
 // and any buffer: one under LISTING_BYTES is refused by REFUSED_SHORT_LISTING and stays as it was. It writes the text at the
 // buffer's start, leaves every byte behind it as it was, and answers the text's length.
+#![tactic(auto)]
+
 mod lines;
 
 ghost use Rattle.std.specs.Prelude.{◌≡◌};

@@ -4,6 +4,8 @@
 // Both take any input and refuse nothing; nothing is written. The port is tested ahead of the addresses (document 02,
 // Req 03): whether all tests hold does not depend on their order. `|` and `&` work out both of their sides, so that an
 // entry that misses on its port costs one branch.
+#![tactic(auto)]
+
 ghost use Rattle.std.specs.Prelude.{◌≡◌, not, ◌||◌};
 ghost use Rattle.table.specs.Table.{is_present};
 ghost use Rattle.matching.specs.Match.{present_or};
@@ -13,7 +15,7 @@ use packets::{Packet, Port};
 use table::Classifier;
 
 // A classifier with its absent parts filled in; `ports` is 0 where it names no port.
-#[derive(Drop)]
+#[derive(Clone, Copy)]
 pub struct Entry {
     pub destination: u32,
     pub source: u32,

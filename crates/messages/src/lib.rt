@@ -4,6 +4,8 @@
 // `find_message` has the rule: in the body where the message came in one piece, else in the join buffer. `own_part` lends from the body
 // and `joined_part` from the join buffer, as that rule has it. They take any outcome of the collector, any body and any join buffer: where
 // no message is complete, or it stands in the other of the two, nothing is lent. They write nothing and copy nothing.
+#![tactic(auto)]
+
 ghost use Rattle.std.specs.Prelude.{◌≡◌};
 ghost use Rattle.collector.specs.Answers.{said, place_of};
 ghost use Rattle.wire.specs.Parts.{part};
@@ -19,7 +21,7 @@ pub const IN_BODY: u8 = 1;
 pub const IN_JOIN: u8 = 2;
 
 // Where a message stands: `length` bytes from the byte `start` of the body or of the join buffer.
-#[derive(Drop)]
+#[derive(Clone, Copy)]
 pub struct Place {
     pub source: u8,
     pub start: usize,

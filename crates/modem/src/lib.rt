@@ -3,6 +3,8 @@
 // `step_modem` takes a record by value and gives the answer and the next record; `on_event` is the same on a record
 // that the host lends. Both take any input; `modem_step::step_numbered` does the work. One refusal, 18, leaves the record
 // as it was; a record that breaks the rules counts as Idle, so every event but Start leaves it, too, as it was.
+#![tactic(auto)]
+
 ghost use Rattle.std.specs.Prelude.{◌≡◌, cond};
 ghost use Rattle.modem_rows.specs.Numbers.{event_of};
 ghost use Rattle.modem_step.specs.Step.{answer_of, stepped_modem};
@@ -20,7 +22,7 @@ fn wide_mark(fact: bool) -> u16
 }
 
 // The number of an event and what it carries.
-#[derive(Drop)]
+#[derive(Clone, Copy)]
 struct Carried {
     kind: u8,
     a: u16,

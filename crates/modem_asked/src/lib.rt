@@ -1,6 +1,8 @@
 // What a host asks of a modem record (document 01, "Modem record"): whether it transmits, whether it forwards.
 //
 // `transmits` and `forwards`. Both take any record and change none: one that breaks the rules counts as Idle, and does neither.
+#![tactic(auto)]
+
 ghost use Rattle.std.specs.Prelude.{◌≡◌};
 ghost use Rattle.modem_asked.specs.Asked.{transmits, forwards};
 

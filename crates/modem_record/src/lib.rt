@@ -2,6 +2,8 @@
 //
 // `empty_modem` is an idle record to begin with. `counts_idle` is the test that every event but Start meets first: a record
 // that breaks the rules counts as Idle. It takes any record and changes none.
+#![tactic(auto)]
+
 ghost use Rattle.std.specs.Prelude.{◌≡◌, ◌≤◌, eqb};
 ghost use Rattle.modem_record.specs.Record.{counts_idle, empty_modem};
 ghost use Rattle.modem_record.specs.Idle.{is_unsuited, is_late, is_held_over};
@@ -24,7 +26,7 @@ pub const RESTING: u8 = 6;
 // The modem record. Times in milliseconds, timer values in seconds. A mark (`receiveon`, `retryon`, `hasucid`) is 1
 // where the value it belongs to counts, 0 where it does not; permission is 1 or 0. The order leaves no padding.
 #[repr(C)]
-#[derive(Drop)]
+#[derive(Clone, Copy)]
 pub struct Modem {
     pub last: u32,
     pub receive: u32,

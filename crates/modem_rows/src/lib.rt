@@ -5,6 +5,8 @@
 // in which the table first names their events; each row is one `go`, in the columns of the definition `moved`. Every way
 // through a function makes the record field by field (`keep` where nothing changes): a record copied whole on one way
 // and made on another costs the compiled step half as much again.
+#![tactic(auto)]
+
 ghost use Rattle.std.specs.Prelude.{◌≡◌, cond, ◌*◌};
 ghost use Rattle.modem_record.specs.States.{ranging, one_way, is_sending, is_forwarding, is_four, is_permitted, loaded, retry_of, ucid_of};
 ghost use Rattle.modem_record.specs.Record.{moved_to, moved, allowed, defaulted, valued};
@@ -14,7 +16,7 @@ ghost use Rattle.modem_rows.specs.Events.{start_row, locked_row, empty_row, tabl
 use modem_record::{CHECKING, Modem, ONE_WAY, RANGING, RESTING, SCANNING, TWO_WAY};
 
 // What happens to a modem, in the order of the table.
-#[derive(Drop)]
+#[derive(Clone, Copy)]
 pub enum Event {
     // Begin anew, with or without permission to transmit.
     Start(bool),

@@ -3,6 +3,8 @@
 // `step_numbered` takes a record by value and an event as C names it, and gives the number of the answer and the next
 // record. It takes any input. One refusal, 18, leaves the record as it was; a record that breaks the rules counts as Idle,
 // so every event but Start leaves it, too, as it was.
+#![tactic(auto)]
+
 ghost use Rattle.std.specs.Prelude.{◌≡◌, ◌&&◌, ◌==◌, nat_lt};
 ghost use Rattle.modem_step.specs.Numbers.{gate_of, numbered_step};
 
@@ -11,7 +13,7 @@ use modem_record::Modem;
 mod clock;
 
 // What an event is answered.
-#[derive(Drop)]
+#[derive(Clone, Copy)]
 pub enum Answer {
     // Taken, or ignored as Idle ignores it.
     Done,
@@ -20,7 +22,7 @@ pub enum Answer {
 }
 
 // An answer, and the record after it.
-#[derive(Drop)]
+#[derive(Clone, Copy)]
 pub struct Stepped {
     pub answer: Answer,
     pub modem: Modem,
@@ -28,7 +30,7 @@ pub struct Stepped {
 
 // The same with the answer as this paper's number, 0 for Done.
 #[repr(C)]
-#[derive(Drop)]
+#[derive(Clone, Copy)]
 pub struct Numbered {
     pub answer: u8,
     pub modem: Modem,

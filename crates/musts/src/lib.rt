@@ -5,6 +5,8 @@
 //
 // Types have places, 0 to 25, as in the arrays of the crate types. A row is named by the place of the type whose
 // value it is, and the message itself by 26.
+#![tactic(auto)]
+
 ghost use Rattle.std.specs.Prelude.{◌≡◌, ◌&&◌, ◌+◌, ◌-◌, ◌≤◌, ◌<◌, eqb, get_or};
 ghost use Rattle.types.specs.Places.{line_at};
 ghost use Rattle.musts.specs.Musts.{lacks_must, lacks_in};

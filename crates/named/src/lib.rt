@@ -2,6 +2,8 @@
 //
 // One public function, which takes any input: `lone_number` answers where the first 50.6 of a message stands whose number no
 // classifier of a table carries. Counts above their limits are read as the limits. It writes nothing that is lent.
+#![tactic(auto)]
+
 ghost use Rattle.std.specs.Prelude.{◌≡◌, ◌≤◌, length, get_or};
 ghost use Rattle.children.specs.Rows.{row_in, places_of};
 ghost use Rattle.table.specs.Table.{limited_to};
@@ -12,7 +14,7 @@ use elements::Head;
 use table::{Rule, Table};
 
 // Whether every classifier number that the rules name is carried by a classifier.
-#[derive(Drop)]
+#[derive(Clone, Copy)]
 pub enum Lone {
     // Every one is.
     Answered,
@@ -21,7 +23,7 @@ pub enum Lone {
 }
 
 // What the search over a table finds.
-#[derive(Drop)]
+#[derive(Clone, Copy)]
 pub enum Found {
     // Every number is carried.
     Nothing,

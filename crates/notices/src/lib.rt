@@ -3,6 +3,8 @@
 // Two public functions, `list_refusal` and `list_waiting`. They take any number
 // and any buffer: one under LISTING_BYTES is refused by REFUSED_SHORT_LISTING and stays as it was. They write the text at the
 // buffer's start, leave every byte behind it as it was, and answer the text's length.
+#![tactic(auto)]
+
 ghost use Rattle.std.specs.Prelude.{◌≡◌, [], ◌∷◌, ◌++◌, ◌+◌, ◌≤◌, length};
 ghost use Rattle.texts.specs.Text.{field};
 ghost use Rattle.texts.specs.Writing.{Fits, Wrote, Lined};
@@ -16,7 +18,7 @@ pub const LISTING_BYTES: usize = 3755;
 pub const REFUSED_SHORT_LISTING: u8 = 100;
 
 // What a call that lists answers.
-#[derive(Drop)]
+#[derive(Clone, Copy)]
 pub enum Listed {
     // The listing stands at the start of the buffer and has this many bytes.
     Text(usize),

@@ -2,6 +2,8 @@
 //
 // Four public functions: `number1`, `number2`, `number4` and `number6`. They take any slice and any place, and write
 // nothing: a byte beyond the end counts as 0.
+#![tactic(auto)]
+
 ghost use Rattle.std.specs.Prelude.{◌≡◌, ◌+◌, ◌-◌, ◌^◌, ◌≤◌, ◌<◌, length, get_or};
 ghost use Rattle.numbers.specs.Numbers.{number_at};
 

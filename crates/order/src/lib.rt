@@ -2,11 +2,13 @@
 //
 // One public function, `is_better`: it takes any best so far, priority and number, and says whether the
 // greater priority, among equals the smaller number, is theirs. Nothing is written.
+#![tactic(auto)]
+
 ghost use Rattle.std.specs.Prelude.{◌≡◌};
 ghost use Rattle.order.specs.Best.{is_better};
 
 // The best of the places that were looked at, with its priority and number; place 32 is none yet.
-#[derive(Drop)]
+#[derive(Clone, Copy)]
 pub struct Best {
     pub place: usize,
     pub priority: u8,

@@ -4,13 +4,15 @@
 // what only those look at that name a port. They take any frame and refuse nothing: `read_packet` answers what is no IPv4
 // packet as such, and `read_port` is about IPv4 packets, which it does not ask again. The IP header is as long as the frame
 // says. Nothing is written.
+#![tactic(auto)]
+
 ghost use Rattle.std.specs.Prelude.{◌≡◌};
 ghost use Rattle.packets.specs.Packets.{wrong_length, header_end, is_ipv4, has_port, packet_of, port_of};
 
 use numbers::{number1, number2, number4};
 
 // What every classifier looks at in a frame: whether it is an IPv4 packet, and its addresses.
-#[derive(Drop)]
+#[derive(Clone, Copy)]
 pub struct Packet {
     pub ipv4: bool,
     pub destination: u32,
@@ -18,7 +20,7 @@ pub struct Packet {
 }
 
 // The destination port of an IPv4 packet: whether there is one, and the number in its place.
-#[derive(Drop)]
+#[derive(Clone, Copy)]
 pub struct Port {
     pub present: bool,
     pub number: u16,

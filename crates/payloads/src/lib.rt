@@ -2,12 +2,14 @@
 //
 // Two public functions, `payload` and `payload_range`, which take any verdict and any frame, or any length of one. They write
 // nothing and copy nothing. That the payload begins at byte 14 stands in `payload_range` alone.
+#![tactic(auto)]
+
 ghost use Rattle.std.specs.Prelude.{◌≡◌, length};
 ghost use Rattle.wire.specs.Parts.{part};
 ghost use Rattle.payloads.specs.Payload.{payload_range, part_over};
 
 // The verdict on a frame.
-#[derive(Drop)]
+#[derive(Clone, Copy)]
 pub enum Verdict {
     // The number of the refusal, 16 or 17.
     Refused(u8),
@@ -20,7 +22,7 @@ pub enum Verdict {
 }
 
 // A part of a frame: the bytes from `start` on, up to `end` and without it.
-#[derive(Drop)]
+#[derive(Clone, Copy)]
 pub struct Range {
     pub start: usize,
     pub end: usize,

@@ -2,6 +2,8 @@
 //
 // One public function, `judge_prepared`. It takes any tunnel and any frame, lends the tunnel's parts on, and
 // answers what crate `tunnel_parts` answers. Crate `preparing` makes tunnels. Nothing that is lent is written.
+#![tactic(auto)]
+
 ghost use Rattle.std.specs.Prelude.{◌≡◌};
 ghost use Rattle.payloads.specs.Judged.{judged};
 ghost use Rattle.tunnel_parts.specs.Prepared.{prepared_verdict};

@@ -6,6 +6,8 @@
 //
 // Stack, measured on the compiled code for x86-64: some 33 KB in one frame, which holds the given table, the
 // table that is being read and their copies, and under 2 KB below it, whatever the length of the message.
+#![tactic(auto)]
+
 ghost use Rattle.std.specs.Prelude.{◌≡◌, ◌<◌, length};
 ghost use Rattle.rows.specs.Rows.{tested_at};
 ghost use Rattle.reader.specs.Read.{refusal, read_table};
@@ -25,7 +27,7 @@ const FULL: usize = 32;
 const TAKEN: usize = 33;
 
 // What became of a message.
-#[derive(Drop)]
+#[derive(Clone, Copy)]
 pub enum Verdict {
     // It is a table.
     Accepted,
@@ -34,7 +36,7 @@ pub enum Verdict {
 }
 
 // The verdict, and the table: the message's if it is accepted, else the one given.
-#[derive(Drop)]
+#[derive(Clone, Copy)]
 pub struct Reading {
     pub verdict: Verdict,
     pub table: Table,
@@ -42,7 +44,7 @@ pub struct Reading {
 
 // What the top-level elements come to: 0, or a refusal number of 6 to 14 and its offset; where the configuration stands, or the
 // end of the message; and the table without it.
-#[derive(Drop)]
+#[derive(Clone, Copy)]
 pub struct Taken {
     pub bad: u8,
     pub off: usize,

@@ -4,6 +4,8 @@
 // the caller. A body refused with 1 to 5 changes nothing that is lent; one with 21 empties the record but for its setting, and leaves
 // the table. A refused message leaves the table as it was given; its pieces
 // stay collected, so that a further copy of one is a Repeat. Nothing is read before the message is complete.
+#![tactic(auto)]
+
 ghost use Rattle.std.specs.Prelude.{◌≡◌};
 ghost use Rattle.collector.specs.Answers.{said, lent_of};
 ghost use Rattle.reader.specs.Read.{read_table};
@@ -15,7 +17,7 @@ use reader::{Reading, Verdict};
 use table::Table;
 
 // What a body is answered.
-#[derive(Drop)]
+#[derive(Clone, Copy)]
 pub enum Report {
     // The body is refused, 1 to 5; all that is lent is as it was.
     BodyRefused(u8),
@@ -33,7 +35,7 @@ pub enum Report {
 }
 
 // The report, and the record and the table after the call.
-#[derive(Drop)]
+#[derive(Clone, Copy)]
 pub struct Received {
     pub report: Report,
     pub held: Collection,

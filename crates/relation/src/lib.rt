@@ -3,6 +3,8 @@
 // One public function, `relate`: the piece goes on with the collection that a record holds, repeats one that its slot has, or begins
 // anew. It takes any record, buffer, numbers and piece and refuses nothing: a slot beyond the sixteenth is empty, and what a slot has is
 // cut where the slot buffer ends. It writes nothing.
+#![tactic(auto)]
+
 ghost use Rattle.std.specs.Prelude.{◌≡◌, min};
 ghost use Rattle.relation.specs.Relation.{relation_to};
 

@@ -7,6 +7,8 @@
 // each child; the bytes left fall at each call. The row reader is a loop, so the calls are only as deep as
 // rows stand in rows: by the table at most `row_from` for 23 and again for 23.9, or for 50 and 50.4, whatever
 // the length of the message.
+#![tactic(auto)]
+
 ghost use Rattle.std.specs.Prelude.{◌≡◌, ◌+◌, ◌≤◌, ◌<◌, length};
 ghost use Rattle.rows.specs.Tests.{is_row, row_end, none_counted, empty_tally};
 ghost use Rattle.rows.specs.Rows.{element_of, row_of, tested_at};
@@ -16,7 +18,7 @@ use elements::Head;
 use types::Length;
 
 // How many elements of each list stand before this one in its row. A type's list has a number in its row.
-#[derive(Drop)]
+#[derive(Clone, Copy)]
 pub struct Tally {
     pub counts: [u8; 8],
 }
@@ -25,14 +27,14 @@ pub struct Tally {
 const NO_LIST: usize = 8;
 
 // What a row comes to: 0, or a refusal number and its offset.
-#[derive(Drop)]
+#[derive(Clone, Copy)]
 pub struct Fault {
     pub bad: u8,
     pub off: usize,
 }
 
 // What a top-level element comes to. `next` is the place after it, or its own where its head is refused.
-#[derive(Drop)]
+#[derive(Clone, Copy)]
 pub struct Tested {
     pub bad: u8,
     pub off: usize,

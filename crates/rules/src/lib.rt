@@ -4,6 +4,8 @@
 // element there in byte order. It makes no test: what a message that passed its tests cannot hold is
 // passed over, and where no element stands the answer is the empty rule. It writes nothing; the walk
 // changes one local.
+#![tactic(auto)]
+
 ghost use Rattle.std.specs.Prelude.{◌≡◌, ◌+◌, ◌≤◌, ◌<◌, length, set, take, drop, replicate};
 ghost use Rattle.wire.specs.Bytes.{pasted};
 ghost use Rattle.table.specs.Table.{empty_rule};

@@ -3,6 +3,8 @@
 // Four public functions, `empty_client`, `empty_rule`, `empty_classifier` and `empty_table`; and
 // `limited`, by which every count of a lent record is read. All take any input and refuse nothing.
 // Records hold numbers and arrays only and are `#[repr(C)]`, so that a C host can lend them as they are.
+#![tactic(auto)]
+
 ghost use Rattle.std.specs.Prelude.{◌≡◌};
 ghost use Rattle.table.specs.Table.{limited_to, empty_client, empty_rule, empty_classifier, default_timers, empty_table};
 
@@ -32,7 +34,7 @@ pub const RULE_UCIDS: usize = 16;
 
 // A client ID: its kind, and its value as a number (a MAC as its six bytes, big-endian).
 #[repr(C)]
-#[derive(Drop)]
+#[derive(Clone, Copy)]
 pub struct Client {
     pub kind: u8,
     pub value: u64,
@@ -40,7 +42,7 @@ pub struct Client {
 
 // A rule. Its tunnel address is the number of its six bytes, big-endian; no UCID means no UCID list.
 #[repr(C)]
-#[derive(Drop)]
+#[derive(Clone, Copy)]
 pub struct Rule {
     pub number: u8,
     pub priority: u8,
@@ -55,7 +57,7 @@ pub struct Rule {
 
 // A classifier. A part is absent where its mark is 0; its value is then 0 in a table that was read.
 #[repr(C)]
-#[derive(Drop)]
+#[derive(Clone, Copy)]
 pub struct Classifier {
     pub destination: u32,
     pub source: u32,
@@ -72,7 +74,7 @@ pub struct Classifier {
 
 // The four timer values in seconds.
 #[repr(C)]
-#[derive(Drop)]
+#[derive(Clone, Copy)]
 pub struct TimerValues {
     pub tdsg1: u16,
     pub tdsg2: u16,
@@ -82,7 +84,7 @@ pub struct TimerValues {
 
 // A table. Of each list the first places up to its count are used.
 #[repr(C)]
-#[derive(Drop)]
+#[derive(Clone, Copy)]
 pub struct Table {
     pub rulecount: u8,
     pub classifiercount: u8,

@@ -3,6 +3,8 @@
 // Two public functions, `put_field` and `put_address`. They take any word, any number, any buffer and any place. Where the text has no
 // room they write nothing and answer the place that they were given; else they write just the text and answer the place behind it.
 // The private functions ask that their text has room.
+#![tactic(auto)]
+
 ghost use Rattle.std.specs.Prelude.{◌≡◌, [], ◌∷◌, ◌+◌, ◌<◌, length, leb};
 ghost use Rattle.texts.specs.Text.{digit, decimal, hexadecimal, field, address};
 ghost use Rattle.texts.specs.Put.{put};

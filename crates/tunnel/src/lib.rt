@@ -3,6 +3,8 @@
 // One public function, `judge_frame`, which gives the verdict. It takes any input: a frame of a wrong length is
 // refusal 16, a client that no rule fits refusal 17, and a count above its limit is read as the limit. Nothing that is
 // lent is written.
+#![tactic(auto)]
+
 ghost use Rattle.std.specs.Prelude.{◌≡◌, ◌&&◌};
 ghost use Rattle.order.specs.Best.{best_after};
 ghost use Rattle.listed.specs.Listed.{names_number};

@@ -3,6 +3,8 @@
 // One public function, `judge_lent`. It takes any parts and any frame: a frame of a wrong length is refusal 16,
 // a tunnel of mode 0 refusal 17, and a count above its limit is read as the limit. Crate `preparing` makes
 // tunnels. Nothing that is lent is written.
+#![tactic(auto)]
+
 ghost use Rattle.std.specs.Prelude.{◌≡◌, eqb};
 ghost use Rattle.order.specs.Best.{first_place};
 ghost use Rattle.packets.specs.Packets.{address_at};
@@ -19,7 +21,7 @@ use table::limited;
 // A prepared tunnel. Mode 0: no rule fits; 1: the rule names no classifier; any other: by its entries,
 // whose parts stand in the arrays in matching order, the first `count` places used.
 #[repr(C)]
-#[derive(Drop)]
+#[derive(Clone, Copy)]
 pub struct Tunnel {
     pub address: u64,
     pub mode: u8,

@@ -5,6 +5,8 @@
 //
 // Types have places, 0 to 25, the same in every array; the types of one row stand together. A row is named
 // by the place of the type whose value it is, and the message itself by 26.
+#![tactic(auto)]
+
 ghost use Rattle.std.specs.Prelude.{◌≡◌, ◌&&◌, ◌-◌, ◌≤◌, ◌<◌, eqb};
 ghost use Rattle.types.specs.Places.{type_under, place_in, line_at, known_at};
 ghost use Rattle.types.specs.Columns.{columns};
@@ -16,7 +18,7 @@ pub const TOP_LEVEL: usize = 26;
 pub const UNLISTED: usize = 26;
 
 // The lengths that a value may have.
-#[derive(Drop)]
+#[derive(Clone, Copy)]
 pub enum Length {
     // The value is a row of elements.
     Row,
@@ -29,7 +31,7 @@ pub enum Length {
 }
 
 // The values that are allowed.
-#[derive(Drop)]
+#[derive(Clone, Copy)]
 pub enum Values {
     // Every value.
     Any,
@@ -40,7 +42,7 @@ pub enum Values {
 }
 
 // What the table says of one type.
-#[derive(Drop)]
+#[derive(Clone, Copy)]
 pub struct Known {
     // Its place; 26 where the type is not listed.
     pub place: usize,
@@ -343,7 +345,7 @@ fn place_between(from: usize, after: usize, parent: u8, kind: u8) -> usize
 }
 
 // A place, and the list of the type there.
-#[derive(Drop)]
+#[derive(Clone, Copy)]
 struct Found {
     place: usize,
     list: usize,

@@ -2,6 +2,8 @@
 //
 // One public function: `copy_at`. It takes any slices and any place and refuses nothing: a piece that does not fit leaves its
 // target as it was. It writes only where the piece goes.
+#![tactic(auto)]
+
 ghost use Rattle.std.specs.Prelude.{◌≡◌, ◌+◌, ◌≤◌, length};
 ghost use Rattle.wire.specs.Bytes.{pasted};
 

@@ -2,6 +2,8 @@
 //
 // One public function, `lay_all`. It takes any lengths, any message and any buffer and refuses nothing: a piece ends where the message ends, and a
 // body that does not fit at its step is not laid. It writes only where a body goes.
+#![tactic(auto)]
+
 ghost use Rattle.std.specs.Prelude.{◌≡◌, ◌≤◌, [], ◌∷◌, take};
 ghost use Rattle.table.specs.Table.{limited_to};
 ghost use Rattle.writing_bodies.specs.Bodies.{laid, cut_by};

@@ -2,6 +2,8 @@
 //
 // One public function, `is_producible`, which takes any table. It writes nothing. Every test is made, whatever the others say: a table
 // that is not refused pays for all of them. A list is handed on by itself, so that the table is not copied for each test.
+#![tactic(auto)]
+
 ghost use Rattle.std.specs.Prelude.{◌≡◌, not};
 ghost use Rattle.element_tests.specs.Tests.{no_channel};
 ghost use Rattle.writing_entries.specs.Entries.{list_fits, is_zero};

@@ -3,6 +3,8 @@
 // One public function, `put_classifier`. It takes any classifier, buffer and place. Where the longest classifier has no room
 // nothing is written and the answer is the place that was given; else just the element is written, and the answer is the
 // place behind it. The private functions ask for room from `at` on and answer the place behind what they write.
+#![tactic(auto)]
+
 ghost use Rattle.std.specs.Prelude.{◌≡◌, ◌+◌, ◌≤◌, length};
 ghost use Rattle.texts.specs.Writing.{Lined};
 ghost use Rattle.writing_elements.specs.Encode.{big_endian, element, part, part_row, classifier_row, classifier_bytes};

@@ -3,6 +3,8 @@
 // One public function, `put_clients`. It takes any rule, any buffer and any place. Where fewer than CLIENTS_BYTES are left from
 // the place on, nothing is written and the answer is the place that was given; else just the row is written, and the answer is
 // the place behind it. The private functions ask for room.
+#![tactic(auto)]
+
 ghost use Rattle.std.specs.Prelude.{◌≡◌, ◌+◌, ◌≤◌, length};
 ghost use Rattle.table.specs.Table.{clients_of};
 ghost use Rattle.texts.specs.Text.{each};

@@ -4,6 +4,8 @@
 // room, or the table's has no child, nothing is written and the answer is the place that was given; else just the element
 // is written, and the answer is the place behind it. The private functions ask for room from `at` on and answer the place
 // behind what they write.
+#![tactic(auto)]
+
 ghost use Rattle.std.specs.Prelude.{◌≡◌, ◌++◌, ◌+◌, ◌≤◌, length, take};
 ghost use Rattle.wire.specs.Bytes.{concat};
 ghost use Rattle.table.specs.Table.{limited_to};

@@ -3,6 +3,8 @@
 // Four public functions, which take any entry: `is_sound_rule` and `is_sound_classifier` say whether a used one could have been read,
 // `is_unused_rule` and `is_unused_classifier` whether it is 0 throughout. They write nothing. `&` works out both of its sides, so that
 // the tests of an entry cost no branch each.
+#![tactic(auto)]
+
 ghost use Rattle.std.specs.Prelude.{◌≡◌, cond, not, length, drop};
 ghost use Rattle.writing_entries.specs.Entries.{all_of, list_fits, is_zero, sound_client, unused_client, sound_rule, unused_rule, sound_part, sound_classifier, unused_classifier};
 

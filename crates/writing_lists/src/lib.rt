@@ -2,6 +2,8 @@
 //
 // Two public functions, `rules_fit` and `classifiers_fit`. They take any array and any count, which is read as 32 where it is above,
 // and write nothing. The numbers that are passed are noted in an array of their own, in which each next one is looked up.
+#![tactic(auto)]
+
 ghost use Rattle.std.specs.Prelude.{◌≡◌};
 ghost use Rattle.table.specs.Table.{limited_to};
 ghost use Rattle.writing_lists.specs.Lists.{rules_fit, classifiers_fit};

@@ -3,6 +3,8 @@
 // One public function, `put_message`. It takes any table and an array that any message fits, writes the message at the array's start,
 // leaves every byte behind it as it was, and answers its length and the record of its pieces.
 // The private functions ask that their elements have room.
+#![tactic(auto)]
+
 ghost use Rattle.std.specs.Prelude.{◌≡◌, ◌≤◌, length};
 ghost use Rattle.table.specs.Table.{classifiers_of, rules_of};
 ghost use Rattle.writing_elements.specs.Encode.{classifier_bytes, rule_bytes};
@@ -15,7 +17,7 @@ use table::Table;
 const PIECE_BYTES: usize = 1497;
 
 // The pieces so far: how many are closed, the bytes of the one that is being filled, the lengths of the closed ones.
-#[derive(Drop)]
+#[derive(Clone, Copy)]
 pub struct Cut {
     pub closed: u8,
     pub now: u16,
@@ -23,7 +25,7 @@ pub struct Cut {
 }
 
 // A message in an array: its length, and its pieces.
-#[derive(Drop)]
+#[derive(Clone, Copy)]
 pub struct Message {
     pub length: usize,
     pub cut: Cut,

@@ -3,6 +3,8 @@
 // Two public functions: `put_number`, and `has_room`, by which every writer of an element asks for room. They take any input.
 // Where the element has no room nothing is written and the answer is the place that was given; else just the element is
 // written, and the answer is the place behind it.
+#![tactic(auto)]
+
 ghost use Rattle.std.specs.Prelude.{◌≡◌, ◌+◌, ◌≤◌, length, leb};
 ghost use Rattle.texts.specs.Put.{put};
 ghost use Rattle.texts.specs.Writing.{Wrote};

@@ -3,6 +3,8 @@
 // One public function, `put_rule`. It takes any rule, any buffer and any place. Where fewer than RULE_BYTES are left from the
 // place on, nothing is written and the answer is the place that was given; else just the element is written, and the answer is
 // the place behind it. The private functions ask for room.
+#![tactic(auto)]
+
 ghost use Rattle.std.specs.Prelude.{◌≡◌, ◌+◌, ◌≤◌, length};
 ghost use Rattle.table.specs.Table.{numbers_of, ucids_of};
 ghost use Rattle.texts.specs.Text.{each};

@@ -3,6 +3,8 @@
 // One public function, `write_table`. It takes any change count, any table and any buffer. A table that reading cannot produce is refused by
 // REFUSED_CANNOT_PRODUCE, then a buffer that is too short for the bodies by REFUSED_SHORT_OUTPUT; after either the buffer is as it was. Else
 // it writes just the bodies, and answers their number and their lengths.
+#![tactic(auto)]
+
 ghost use Rattle.std.specs.Prelude.{◌≡◌, map, ℕ, ◌+◌, ◌≤◌, ◌<◌, get_or, take, replicate};
 ghost use Rattle.table.specs.Table.{padded};
 ghost use Rattle.writing_table.specs.Writing.{writing};
@@ -23,7 +25,7 @@ const HEAD_BYTES: u16 = 3;
 
 // The answer: a refusal's number or 0, how many bodies there are, and their lengths, 0 behind the last.
 #[repr(C)]
-#[derive(Drop)]
+#[derive(Clone, Copy)]
 pub struct Written {
     pub refused: u8,
     pub number: u8,
