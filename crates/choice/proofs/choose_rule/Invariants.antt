@@ -1,0 +1,21 @@
+-- `choice::choose_rule` gives `choice_of`. The invariant: the walk from `i` on with the best so far ends as the whole walk does; `n - i` falls.
+-- What the whole walk finds is the choice, by Walk.
+-- Trusts: nothing.
+use borrow.Author.Rules.{rules}
+use Prim.Native.Nat.{◌≤◌, ◌-◌}
+use mathlib.Core.Path.{◌≡◌, refl, sym, ap, ◌∙◌}
+use mathlib.Core.Logic.{⊎_elim}
+use native.Mathlib.Omega.{arith}
+use lib.ListN.{length, take, drop}
+use Rattle.table.proofs.Laws.{limited_to_le, length_mapped}
+use Rattle.table.specs.Table.{rules_of}
+use Rattle.order.proofs.Scan.{nothing, scan_more, scan_end}
+use Rattle.choice.specs.Chose.{chose}
+use Rattle.choice.proofs.Walk.{walk, refuses, chooses, stays}
+use Rattle.choice.proofs.choose_rule.Given as goal
+
+abbrev pub invariant-loop-i : goal.invariant-loop-i
+invariant-loop-i l = (l.i ≤ l.n) × (l.n ≤ 32) × (length l.initial.best ≡ 32) × (walk l.client l.ucid l.best l.i (drop l.i (take l.n l.initial.best)) ≡ walk l.client l.ucid nothing 0 (take l.n l.initial.best))
+
+abbrev pub decreases-loop-i : goal.decreases-loop-i
+decreases-loop-i l = l.n - l.i

@@ -1,0 +1,24 @@
+-- `classifiers::classifier_in` gives the fold of with_classifier_child.
+-- The loop keeps that the fold from `at` on, over what it has, is the fold from the start. Every arm is one more step of that fold; what is left falls.
+-- Trusts: nothing.
+use borrow.Author.Rules.{rules}
+use Prim.Native.Nat.{ℕ, ◌+◌, ◌-◌, ◌≤◌, ◌<◌}
+use mathlib.Core.Path.{◌≡◌, ◌∙◌}
+use mathlib.Core.List.{List}
+use lib.ListN.{length}
+use native.Mathlib.Omega.{arith}
+use Rattle.numbers.proofs.Laws.{number_at_one}
+use Rattle.table.specs.Table.{empty_classifier}
+use Rattle.table.specs.declared.Classifier.{Classifier}
+use Rattle.children.specs.Rows.{row_fold, row_in}
+use Rattle.children.proofs.Laws.{no_value, item-fits, item_less}
+use Rattle.children.proofs.LawsFolds.{fold_stop, fold_item}
+use Rattle.classifiers.specs.Classifiers.{with_classifier_child}
+use Rattle.classifiers.proofs.Laws.{with_classifier_child-number, with_classifier_child-priority, with_classifier_child-part, with_classifier_child-other}
+use Rattle.classifiers.proofs.classifier_in.Given as goal
+
+abbrev pub invariant-loop-len : goal.invariant-loop-len
+invariant-loop-len l = row_fold (with_classifier_child l.message) (row_in l.message l.at l.end) l.classifier ≡ row_fold (with_classifier_child l.message) (row_in l.message l.from l.end) empty_classifier
+
+abbrev pub decreases-loop-len : goal.decreases-loop-len
+decreases-loop-len l = l.end - l.at

@@ -1,0 +1,18 @@
+-- `writing_configurations::put_channels` writes an element for each channel. After i turns those of the first i stand there (`Turned`); what is left
+-- of the channels falls.
+-- Trusts: nothing.
+use Prim.Native.Nat.{◌+◌, ◌-◌, ◌≤◌}
+use mathlib.Core.Path.{refl}
+use native.Mathlib.Omega.{arith}
+use borrow.Author.Rules.{rules}
+use lib.ListN.{length}
+use Rattle.texts.proofs.Turns.{Turned, turned_none, turned_length, turned_room, turned_more, turned_all}
+use Rattle.writing_elements.specs.Encode.{channel_bytes}
+use Rattle.writing_configurations.proofs.Children.{channel-lined}
+use Rattle.writing_configurations.proofs.put_channels.Given as goal
+
+abbrev pub invariant-loop-i : goal.invariant-loop-i
+invariant-loop-i l = Turned 6 channel_bytes l.channels l.at l.initial.out l.i l.out l.next
+
+abbrev pub decreases-loop-i : goal.decreases-loop-i
+decreases-loop-i l = length l.channels - l.i
