@@ -15,7 +15,7 @@ use Rattle.choice.proofs.Walk.{walk, refuses, chooses, stays}
 use Rattle.choice.proofs.choose_rule.Given as goal
 
 abbrev pub invariant-loop-i : goal.invariant-loop-i
-invariant-loop-i l = (l.i ≤ l.n) × (l.n ≤ 32) × (length l.initial.best ≡ 32) × (walk l.client l.ucid l.best l.i (drop l.i (take l.n l.initial.best)) ≡ walk l.client l.ucid nothing 0 (take l.n l.initial.best))
+invariant-loop-i l = (l.i ≤ l.n) × (l.n ≤ 32) × (length l.rules ≡ 32) × (walk l.client l.ucid l.best l.i (drop l.i (take l.n l.rules)) ≡ walk l.client l.ucid nothing 0 (take l.n l.rules))
 
 abbrev pub decreases-loop-i : goal.decreases-loop-i
 decreases-loop-i l = l.n - l.i

@@ -14,7 +14,7 @@ use Rattle.joining.proofs.Laws.{joined-more, joined_into-more, join_step-most}
 use Rattle.joining.proofs.join_pieces.Given as goal
 
 abbrev pub invariant-loop-k : goal.invariant-loop-k
-invariant-loop-k l = (l.k ≤ l.initial.join) × (l.initial.join ≤ 16) × (l.at ≤ l.k * 65535) × (length l.join ≡ length l.n) × (l.at ≡ length (joined l.slots l.count l.k)) × (l.join ≡ joined_into l.n l.slots l.count l.k)
+invariant-loop-k l = (l.k ≤ l.count) × (l.count ≤ 16) × (l.at ≤ l.k * 65535) × (length l.join ≡ length l.initial.join) × (l.at ≡ length (joined l.slots l.lengths l.k)) × (l.join ≡ joined_into l.initial.join l.slots l.lengths l.k)
 
 abbrev pub decreases-loop-k : goal.decreases-loop-k
-decreases-loop-k l = l.initial.join - l.k
+decreases-loop-k l = l.count - l.k

@@ -15,22 +15,22 @@ use Rattle.named.proofs.LawsLone.{lone_rule, lone_end, lone_answered, lone_numbe
 use Rattle.named.proofs.first_unanswered.Given as goal
 
 abbrev pub invariant-loop-k : goal.invariant-loop-k
-invariant-loop-k l = (l.j ≡ l.number) × (l.k ≤ l.classifiers) × (l.classifiers ≤ 32) × (length l.table.classifiers ≡ 32)
-    × (is_listed l.initial.j (carried_from l.table l.k) ≡ is_listed l.initial.j (classifier_numbers l.table))
+invariant-loop-k l = (l.j ≡ l.initial.j) × (l.k ≤ l.classifiers) × (l.classifiers ≤ 32) × (length l.table.classifiers ≡ 32)
+    × (is_listed l.number (carried_from l.table l.k) ≡ is_listed l.number (classifier_numbers l.table))
 
 abbrev pub decreases-loop-k : goal.decreases-loop-k
 decreases-loop-k l = l.classifiers - l.k
 
 abbrev pub invariant-number : goal.invariant-number
-invariant-number l = let later = lone_of (classifier_numbers l.table) (l.rule + 1) (drop (l.rule + 1) (rules_of l.table)) in
-    (l.found ≡ Nothing) × (l.j ≤ l.initial.found) × (l.initial.found ≤ 8) × (length l.numbers.numbers ≡ 8) × (lone_in (classifier_numbers l.table) l.rule l.j (drop l.j (numbers_of l.numbers)) later ≡ unanswered l.table)
+invariant-number l = let later = lone_of (classifier_numbers l.table) (l.i + 1) (drop (l.i + 1) (rules_of l.table)) in
+    (l.found ≡ Nothing) × (l.j ≤ l.numbers) × (l.numbers ≤ 8) × (length l.rule.numbers ≡ 8) × (lone_in (classifier_numbers l.table) l.i l.j (drop l.j (numbers_of l.rule)) later ≡ unanswered l.table)
 
 abbrev pub decreases-number : goal.decreases-number
-decreases-number l = l.initial.found - l.j
+decreases-number l = l.numbers - l.j
 
 abbrev pub invariant-search : goal.invariant-search
-invariant-search l = (l.found ≡ Nothing) × (l.i ≤ l.classifiers) × (l.classifiers ≤ 32) × (length l.table.rules ≡ 32) × (length l.table.classifiers ≡ 32)
+invariant-search l = (l.found ≡ Nothing) × (l.i ≤ l.rules) × (l.rules ≤ 32) × (length l.table.rules ≡ 32) × (length l.table.classifiers ≡ 32)
     × (lone_of (classifier_numbers l.table) l.i (drop l.i (rules_of l.table)) ≡ unanswered l.table)
 
 abbrev pub decreases-search : goal.decreases-search
-decreases-search l = l.classifiers - l.i
+decreases-search l = l.rules - l.i

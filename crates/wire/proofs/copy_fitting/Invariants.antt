@@ -11,7 +11,7 @@ use Rattle.wire.proofs.Laws.{paste_pasted}
 use Rattle.wire.proofs.copy_fitting.Given as goal
 
 abbrev pub invariant-loop-i : goal.invariant-loop-i
-invariant-loop-i l = (l.i ≤ length l.initial.target) × (length l.target ≡ length l.at) × (l.target ≡ paste l.at l.source l.initial.target l.i)
+invariant-loop-i l = (l.i ≤ length l.source) × (length l.target ≡ length l.initial.target) × (l.target ≡ paste l.initial.target l.at l.source l.i)
 
 abbrev pub decreases-loop-i : goal.decreases-loop-i
-decreases-loop-i l = length l.initial.target - l.i
+decreases-loop-i l = length l.source - l.i

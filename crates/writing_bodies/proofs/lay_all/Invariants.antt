@@ -15,7 +15,7 @@ use Rattle.writing_bodies.proofs.Turn.{Laying, laying_none, laying_more, laying_
 use Rattle.writing_bodies.proofs.lay_all.Given as goal
 
 abbrev pub invariant-loop-k : goal.invariant-loop-k
-invariant-loop-k l = Laying l.count l.number (take (limited_to 16 l.number) l.bodies) l.message l.lengths l.out l.from l.k
+invariant-loop-k l = Laying l.count l.number (take (limited_to 16 l.number) l.lengths) l.message l.initial.out l.out l.from l.k
 
 abbrev pub decreases-loop-k : goal.decreases-loop-k
-decreases-loop-k l = l.initial.out - l.k
+decreases-loop-k l = l.bodies - l.k

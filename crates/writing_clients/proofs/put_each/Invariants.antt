@@ -13,7 +13,7 @@ use Rattle.writing_elements.specs.Encode.{client_bytes}
 use Rattle.writing_clients.proofs.put_each.Given as goal
 
 abbrev pub invariant-loop-i : goal.invariant-loop-i
-invariant-loop-i l = Turned 8 client_bytes (clients_of l.n) l.at l.rule l.i l.out l.next
+invariant-loop-i l = Turned 8 client_bytes (clients_of l.rule) l.initial.out l.at l.i l.out l.next
 
 abbrev pub decreases-loop-i : goal.decreases-loop-i
-decreases-loop-i l = l.initial.out - l.i
+decreases-loop-i l = l.n - l.i

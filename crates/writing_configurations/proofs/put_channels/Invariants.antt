@@ -12,7 +12,7 @@ use Rattle.writing_configurations.proofs.Children.{channel-lined}
 use Rattle.writing_configurations.proofs.put_channels.Given as goal
 
 abbrev pub invariant-loop-i : goal.invariant-loop-i
-invariant-loop-i l = Turned 6 channel_bytes l.channels l.at l.initial.out l.i l.out l.next
+invariant-loop-i l = Turned 6 channel_bytes l.channels l.initial.out l.at l.i l.out l.next
 
 abbrev pub decreases-loop-i : goal.decreases-loop-i
 decreases-loop-i l = length l.channels - l.i

@@ -14,7 +14,7 @@ use Rattle.writing_message.proofs.Turns.{Adding, Begun, adding_none, adding_leng
 use Rattle.writing_message.proofs.put_classifiers.Given as goal
 
 abbrev pub invariant-loop-i : goal.invariant-loop-i
-invariant-loop-i l = Adding 37 classifier_bytes (classifiers_of l.n) l.table (record { length = l.initial.at; l.cut = l.initial.cut }) l.i l.held l.at l.cut
+invariant-loop-i l = Adding 37 classifier_bytes (classifiers_of l.table) l.initial.held (record { length = l.initial.at; l.cut = l.initial.cut }) l.i l.held l.at l.cut
 
 abbrev pub decreases-loop-i : goal.decreases-loop-i
-decreases-loop-i l = l.initial.held - l.i
+decreases-loop-i l = l.n - l.i

@@ -9,7 +9,7 @@ use Rattle.writing_numbers.proofs.Stored.{Stored, stored-none, stored-length, st
 use Rattle.writing_numbers.proofs.store_number.Given as goal
 
 abbrev pub invariant-loop-k : goal.invariant-loop-k
-invariant-loop-k l = Stored l.width l.n l.at l.initial.out l.out l.rest l.k
+invariant-loop-k l = Stored l.width l.n l.initial.out l.at l.out l.rest l.k
 
 abbrev pub decreases-loop-k : goal.decreases-loop-k
 decreases-loop-k l = l.k

@@ -14,7 +14,7 @@ use Rattle.writing_rules.proofs.Numbers.{named→lined}
 use Rattle.writing_rules.proofs.put_numbers.Given as goal
 
 abbrev pub invariant-loop-i : goal.invariant-loop-i
-invariant-loop-i l = Turned 4 number_bytes (numbers_of l.n) l.at l.rule l.i l.out l.next
+invariant-loop-i l = Turned 4 number_bytes (numbers_of l.rule) l.initial.out l.at l.i l.out l.next
 
 abbrev pub decreases-loop-i : goal.decreases-loop-i
-decreases-loop-i l = l.initial.out - l.i
+decreases-loop-i l = l.n - l.i

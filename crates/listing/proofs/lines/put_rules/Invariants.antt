@@ -13,7 +13,7 @@ use Rattle.texts.proofs.Turns.{Turned, turned_none, turned_length, turned_room, 
 use Rattle.listing.proofs.lines.put_rules.Given as goal
 
 abbrev pub invariant-loop-i : goal.invariant-loop-i
-invariant-loop-i l = Turned 66 rule_line (rules_of l.n) l.at l.table l.i l.out l.next
+invariant-loop-i l = Turned 66 rule_line (rules_of l.table) l.initial.out l.at l.i l.out l.next
 
 abbrev pub decreases-loop-i : goal.decreases-loop-i
-decreases-loop-i l = l.initial.out - l.i
+decreases-loop-i l = l.n - l.i

@@ -1,0 +1,57 @@
+-- `cuts::judge_cuts` gives `cuts_in`. The loop keeps `Walk`; every turn passes a piece, and what falls is the pieces left.
+-- Trusts: nothing.
+use borrow.Author.Rules.{rules}
+use Prim.Native.Nat.{◌-◌, ◌*◌, ◌≤◌}
+use mathlib.Core.Path.{◌≡◌, refl}
+use native.Mathlib.Omega.{arith}
+use mir.Syntax.{w16}
+use mir.Val.{Fits}
+use lib.ListN.{length, get_or}
+use Rattle.children.proofs.Laws.{no_value}
+use Rattle.cuts.proofs.Walk.{Walk, walk_start, walk_end, walk_past, walk_beyond, walk_free, walk_bad, walk_next}
+use Rattle.cuts.proofs.judge_cuts.Goals as goal
+
+pub loop-k-init : goal.loop-k-init
+loop-k-init c = (omega arith, omega arith, walk_start _ _ _)
+
+-- no cut is left, or no piece has bytes behind the sixteenth
+pub returns-then-n-k : goal.returns-then-n-k
+returns-then-n-k c = walk_end _ _ _ _ _ c.loop-k.invariant.2 c.if-n-k.true
+
+pub returns-then-k-ge16 : goal.returns-then-k-ge16
+returns-then-k-ge16 c =
+    let long : length c.args.lengths ≡ 16 = search rules in
+    walk_past _ _ _ _ _ c.loop-k.invariant.2 (omega (arith, c.if-k-ge16.true))
+
+-- the next cut is past the message's end
+pub returns-then-message-cut : goal.returns-then-message-cut
+returns-then-message-cut c =
+    let w = c in
+    walk_beyond _ _ _ _ _ w.loop-k.invariant.2 w.if-n-k.false _ _ refl refl c.if-message-cut.true
+
+-- no element stands before it
+pub returns-in_default : goal.returns-in_default
+returns-in_default c =
+    let p = c in
+    let w = p in
+    walk_free _ _ _ _ _ w.loop-k.invariant.2 w.if-n-k.false _ _ refl refl _ p.pass_elements-at.ensures
+    c.read_head.ensures (no_value c.in_default.in_default-own.keys2) c.if-at-cut.true
+
+-- it is inside an element
+pub returns-then-at-cut : goal.returns-then-at-cut
+returns-then-at-cut c =
+    let p = c in
+    let w = p in
+    walk_bad _ _ _ _ _ w.loop-k.invariant.2 w.if-n-k.false _ _ refl refl _ p.pass_elements-at.ensures
+    c.read_head.ensures c.in-Value.is c.if-at-cut.true
+
+-- it is good
+pub loop-k-preserved : goal.loop-k-preserved
+loop-k-preserved c =
+    let p = c in
+    let w = p in
+    let inv = w.loop-k.invariant in (
+      omega (arith, w.if-k-ge16.false),
+      omega (arith, short w, inv.1),
+      walk_next _ _ _ _ _ inv.2 w.if-n-k.false _ _ refl refl _ p.pass_elements-at.ensures c.if-at-cut.false,
+    )

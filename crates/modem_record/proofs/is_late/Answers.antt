@@ -1,0 +1,14 @@
+-- `modem_record::is_late` gives `is_late`: a mark of 0 is never late; any other is so unless it is 1 in OneWay with permission.
+-- Trusts: nothing.
+use native.Mathlib.Omega.{arith}
+use Rattle.modem_record.specs.Idle.{is_late, is_held_over}
+use Rattle.modem_record.proofs.LawsIdle.{is_late-off, is_late-on}
+use Rattle.modem_record.proofs.is_late.Goals as goal
+
+-- off
+pub returns-then-retryon-eq0 : goal.returns-then-retryon-eq0
+returns-then-retryon-eq0 c = is_late-off _ _ _ _ c.if-retryon-eq0.true
+
+-- on
+pub returns : goal.returns
+returns c = is_late-on _ _ _ _ (omega (arith, c.if-retryon-eq0.false))

@@ -1,0 +1,32 @@
+-- `named::named_place` gives named_place: the j-th 50.6 in the row of the i-th 50, or 0 where no element stands.
+-- Trusts: nothing.
+use borrow.Author.Rules.{rules}
+use Prim.Native.Nat.{ℕ}
+use mathlib.Core.Path.{◌≡◌, ◌∙◌}
+use native.Mathlib.Omega.{arith}
+use mathlib.Core.Logic.{⊎_elim}
+use Rattle.children.proofs.Laws.{item-fits, row_inside-done, row_inside-row}
+use Rattle.named.specs.Named.{named_place}
+use Rattle.named.proofs.named_place.Goals as goal
+
+pub returns-in_default : goal.returns-in_default
+unfolding named_place
+returns-in_default c =
+    let never = row_inside-done _ _ c.read_head.ensures
+    (λ len v. ⊎_elim (λ (z : ◌≡◌ {A = ℕ} 2 0). omega arith) (λ (z : ◌≡◌ {A = ℕ} 2 1). omega arith) (rw v at c.in_default.in_default-own.keys2)) in
+    simp (← c.nth_place-rule.ensures, never)
+
+pub overflow_add-rule : goal.overflow_add-rule
+overflow_add-rule c = let fits = item-fits _ _ _ c.read_head.ensures c.in-Value.is in omega arith
+
+pub overflow_add-rule-2 : goal.overflow_add-rule-2
+overflow_add-rule-2 c = let fits = item-fits _ _ _ c.read_head.ensures c.in-Value.is in omega arith
+
+pub overflow_add-rule-3 : goal.overflow_add-rule-3
+overflow_add-rule-3 c = let fits = item-fits _ _ _ c.read_head.ensures c.in-Value.is in omega arith
+
+pub returns : goal.returns
+unfolding named_place
+returns c =
+    c.nth_place.ensures
+    ∙ simp (← c.nth_place-rule.ensures, row_inside-row _ _ c.read_head.ensures c.in-Value.is)
