@@ -20,21 +20,16 @@ returns-then-frame-header_end c = simp (← c.header_end.ensures, lt-leb _ _ c.i
 pub returns-then-number2-ne0 : goal.returns-then-number2-ne0
 unfolding has_port
 returns-then-number2-ne0 c =
-    let first = c in
-    simp (← first.header_end.ensures, le-leb _ _ first.if-frame-header_end.false, ← c.number2.ensures, ne_eqb _ _ c.if-number2-ne0.true)
+    simp (← c.header_end.ensures, le-leb _ _ c.if-frame-header_end.false, ← c.number2.ensures, ne_eqb _ _ c.if-number2-ne0.true)
 
 -- protocol 6
 pub returns-then-protocol-eq6 : goal.returns-then-protocol-eq6
 unfolding has_port
 returns-then-protocol-eq6 c =
-    let second = c in
-    let first = second in
-    simp (← first.header_end.ensures, le-leb _ _ first.if-frame-header_end.false, ← second.number2.ensures, eq-eqb _ _ second.if-number2-ne0.false, ← number_at_one, ← c.number1-protocol.ensures, eq-eqb _ _ c.if-protocol-eq6.true)
+    simp (← c.header_end.ensures, le-leb _ _ c.if-frame-header_end.false, ← c.number2.ensures, eq-eqb _ _ c.if-number2-ne0.false, ← number_at_one, ← c.number1-protocol.ensures, eq-eqb _ _ c.if-protocol-eq6.true)
 
 -- else 17 decides
 pub returns : goal.returns
 unfolding has_port
 returns c =
-    let second = c in
-    let first = second in
-    simp (← first.header_end.ensures, le-leb _ _ first.if-frame-header_end.false, ← second.number2.ensures, eq-eqb _ _ second.if-number2-ne0.false, ← number_at_one, ← c.number1-protocol.ensures, ne_eqb _ _ c.if-protocol-eq6.false)
+    simp (← c.header_end.ensures, le-leb _ _ c.if-frame-header_end.false, ← c.number2.ensures, eq-eqb _ _ c.if-number2-ne0.false, ← number_at_one, ← c.number1-protocol.ensures, ne_eqb _ _ c.if-protocol-eq6.false)

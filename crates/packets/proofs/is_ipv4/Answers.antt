@@ -16,20 +16,14 @@ returns-then-number2-ne2048 c = simp (le-leb _ _ c.if-frame-lt34.false, ← c.nu
 pub returns-then-frame-ne4 : goal.returns-then-frame-ne4
 unfolding is_ipv4
 returns-then-frame-ne4 c =
-    let second = c in
-    simp (le-leb _ _ second.if-frame-lt34.false, ← second.number2.ensures, eq-eqb _ _ second.if-number2-ne2048.false, ne_eqb _ _ c.if-frame-ne4.true)
+    simp (le-leb _ _ c.if-frame-lt34.false, ← c.number2.ensures, eq-eqb _ _ c.if-number2-ne2048.false, ne_eqb _ _ c.if-frame-ne4.true)
 
 pub returns-then-frame-lt5 : goal.returns-then-frame-lt5
 unfolding is_ipv4
 returns-then-frame-lt5 c =
-    let third = c in
-    let second = third in
-    simp (le-leb _ _ second.if-frame-lt34.false, ← second.number2.ensures, eq-eqb _ _ second.if-number2-ne2048.false, eq-eqb _ _ third.if-frame-ne4.false, lt-leb _ _ c.if-frame-lt5.true)
+    simp (le-leb _ _ c.if-frame-lt34.false, ← c.number2.ensures, eq-eqb _ _ c.if-number2-ne2048.false, eq-eqb _ _ c.if-frame-ne4.false, lt-leb _ _ c.if-frame-lt5.true)
 
 pub returns : goal.returns
 unfolding is_ipv4
 returns c =
-    let fourth = c in
-    let third = fourth in
-    let second = third in
-    simp (le-leb _ _ second.if-frame-lt34.false, ← second.number2.ensures, eq-eqb _ _ second.if-number2-ne2048.false, eq-eqb _ _ third.if-frame-ne4.false, le-leb _ _ fourth.if-frame-lt5.false, c.header_end.ensures)
+    simp (le-leb _ _ c.if-frame-lt34.false, ← c.number2.ensures, eq-eqb _ _ c.if-number2-ne2048.false, eq-eqb _ _ c.if-frame-ne4.false, le-leb _ _ c.if-frame-lt5.false, c.header_end.ensures)
