@@ -25,8 +25,7 @@ use Rattle.collector.specs.Step.{accepted, collect_step}
 use Rattle.collection.specs.declared.Collection.{Collection}
 use Rattle.collector_demands.specs.Runs.{accepts, lookup, continues, missing, message, judged, settled_run, run_from, reply, reply_from, reply_of}
 use Rattle.wire.proofs.Laws.{clash}
-use Rattle.wire.specs.Bytes.{concat}
-use Rattle.collector_demands.specs.Demand.{Lent, lent_after, reply_to, is_complete, completions, Cutting, body_of, Arrived, none, other, piece, Came, Apart, Demand3}
+use Rattle.collector_demands.specs.Demand.{concat, Lent, lent_after, reply_to, is_complete, completions, Cutting, body_of, Arrived, none, other, piece, Came, Apart, Demand3}
 use Rattle.collector_demands.proofs.Stored.{blank_nothing}
 use Rattle.collector_demands.proofs.Refine.{refusal_of_long}
 use Rattle.collector_demands.proofs.Demands.{demand_2_nothing, demand_3}

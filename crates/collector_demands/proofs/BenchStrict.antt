@@ -20,8 +20,7 @@ use Rattle.cuts.specs.Cuts.{starts_at, judged_to, may_in, sum_to, cuts_from, cut
 use Rattle.collection.specs.Record.{empty_collection}
 use Rattle.body_tests.specs.Refusals.{body_refusal}
 use Rattle.collector_demands.specs.Runs.{accepts, lookup, continues, missing, message, lengths_to, judged, settled_run, run_from, Reply, reply, reply_from, reply_of}
-use Rattle.wire.specs.Bytes.{concat}
-use Rattle.collector_demands.specs.Demand.{Lent, reply_to, is_complete, completions, Cutting, body_of, Arrived, none, piece, Came, lengths_of, Passes, Demand3}
+use Rattle.collector_demands.specs.Demand.{concat, Lent, reply_to, is_complete, completions, Cutting, body_of, Arrived, none, piece, Came, lengths_of, Passes, Demand3}
 use Rattle.collector_demands.proofs.Stored.{blank_nothing}
 use Rattle.collector_demands.proofs.Demands.{demand_2_nothing, demand_3}
 use Rattle.collector_demands.proofs.Bench.{M, pieces, first_body, second_body, lending}

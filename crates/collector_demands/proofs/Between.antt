@@ -13,8 +13,7 @@ use Rattle.cuts.specs.Walks.{Reached, first, Elements}
 use Rattle.cuts.proofs.Reached.{reached_may}
 use Rattle.cuts.proofs.Each.{sum_to_cons}
 use Rattle.cuts.proofs.Pieces.{reached_over}
-use Rattle.wire.specs.Bytes.{concat}
-use Rattle.collector_demands.specs.Demand.{lengths_of, Passes}
+use Rattle.collector_demands.specs.Demand.{concat, lengths_of, Passes}
 
 -- from the place where the pieces begin, a walk arrives where each of them ends
 reached : (ps : List (List ℕ)) (msg pre : List ℕ) → msg ≡ pre ++ concat ps → ((k : ℕ) → k < length ps → Elements (get_or ps k [])) → Reached msg (length pre)

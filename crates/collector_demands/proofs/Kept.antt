@@ -4,16 +4,15 @@
 --   whole-all      all pieces together are the message        length_cut     at most 23,952 bytes
 -- Trusts: nothing.
 use Prim.Native.Nat.{ℕ, zero, suc, ◌+◌, ◌*◌, ◌-◌, ◌≤◌, ◌<◌}
-use mathlib.Core.Path.{◌≡◌, refl, ap, ◌∙◌}
+use mathlib.Core.Path.{◌≡◌, refl, sym, ap, ◌∙◌}
 use mathlib.Core.Bool.{Bool, true, false, cond}
-use mathlib.Core.List.{List, [], ◌∷◌, ◌++◌, append-nil}
+use mathlib.Core.List.{List, [], ◌∷◌, ◌++◌, append_assoc, append-nil}
 use native.Mathlib.Omega.{arith}
 use borrow.Author.Tests.{eqb-true}
 use lib.ListN.{length, get_or, drop, take, length-append, length-drop}
 use lib.Seq.{take-suc, take-length}
 use lib.Dec.{eqb}
-use Rattle.wire.specs.Bytes.{pasted, concat}
-use Rattle.wire.proofs.Laws.{concat-append}
+use Rattle.wire.specs.Bytes.{pasted}
 use Rattle.collector.specs.Answers.{refused, again, waiting, complete}
 use Rattle.held.specs.Held.{empty_slots}
 use Rattle.joining.specs.Pieces.{joined}
@@ -23,7 +22,7 @@ use Rattle.collection.specs.declared.Collection.{Collection}
 use Rattle.joining.proofs.Laws.{length-joined}
 use Rattle.body_tests.proofs.Laws.{fits_of, refusal_of-room}
 use Rattle.collector.proofs.LawsStep.{base_of_number, noted-short}
-use Rattle.collector_demands.specs.Demand.{Cutting}
+use Rattle.collector_demands.specs.Demand.{concat, Cutting}
 use Rattle.collector_demands.proofs.Missing.{whole_to}
 
 -- ---- the join buffer keeps its length
@@ -60,6 +59,11 @@ join_kept r slots join b = go (eqb (refusal_of (length slots) (length join) b) 0
   go false e u = refl
 
 -- ---- a cut message
+
+concat-append : (a b : List (List ℕ)) → concat (a ++ b) ≡ concat a ++ concat b
+unfolding concat
+concat-append [] b = refl
+concat-append (x ∷ a) b = rw (concat-append a b) (sym (append_assoc x (concat a) (concat b)))
 
 whole_take : (ps : List (List ℕ)) (n : ℕ) → n ≤ length ps → whole_to (λ k. get_or ps k []) n ≡ concat (take n ps)
 unfolding whole_to concat

@@ -17,7 +17,6 @@
 -- Trusts: nothing.
 use Rattle.std.specs.Prelude.{ℕ, suc, ◌+◌, ◌≤◌, ◌<◌, ◌≡◌, true, false, List, [], ◌∷◌, ◌++◌, ◌⊎◌, length, get_or}
 use Rattle.collector.specs.Answers.{Said, refused, again, waiting, complete, dropped, lent_of}
-use Rattle.wire.specs.Bytes.{concat}
 use Rattle.held.specs.Held.{well_made}
 use Rattle.body_tests.specs.Refusals.{body_refusal}
 use Rattle.collector.specs.Step.{After, collect_step}
@@ -58,6 +57,10 @@ completions s [] = 0
 completions s (b ∷ h) = is_complete (reply_to s h b).answer + completions s h
 
 -- ---- a message in pieces
+
+unfoldable pub concat : List (List ℕ) → List ℕ
+concat [] = []
+concat (p ∷ ps) = p ++ concat ps
 
 pub record Cutting (message : List ℕ) (pieces : List (List ℕ)) : Type 0 where
   pub whole : concat pieces ≡ message
