@@ -1,17 +1,14 @@
 -- `clients::read_clients` gives clients_in.
 -- The loop keeps that the fold from `at` on, over what it has, is the fold from the start. Every turn is one more step of that fold; what is left falls.
 -- Trusts: nothing.
-use borrow.Author.Rules.{rules}
-use Prim.Native.Nat.{◌-◌}
 use mathlib.Core.Path.{◌≡◌, ◌∙◌}
-use mathlib.Core.Logic.{⊎_elim}
 use native.Mathlib.Omega.{arith}
-use borrow.Author.Tests.{ltb-true}
-use Rattle.children.specs.Rows.{row_fold, row_in}
+use borrow.Author.Tests.{lt-ltb, le-ltb}
 use Rattle.clients.specs.Clients.{with_client_child, clients_in}
-use Rattle.children.proofs.Laws.{no_value, item-fits, item_less}
+use Rattle.children.proofs.Laws.{item-fits, item_less}
 use Rattle.children.proofs.LawsFolds.{fold_stop, fold_item}
 use Rattle.clients.proofs.Laws.{no_client_child, with_client_child_lem, full-client_child}
+use Rattle.clients.proofs.read_clients.Goals.{else-is_client-via-then-is_client+else-used-lt8, else-is_client-via-else-is_client}
 use Rattle.clients.proofs.read_clients.Goals as goal
 
 pub loop-len-init : goal.loop-len-init
@@ -19,7 +16,7 @@ unfolding clients_in
 loop-len-init c = simp c.no_clients-clients.ensures
 
 pub returns-in_default : goal.returns-in_default
-returns-in_default c = fold_stop _ _ _ _ _ c.read_head.ensures (no_value c.in_default.in_default-own.keys2) ∙ c.loop-len.invariant
+returns-in_default c = fold_stop _ _ _ _ _ c.read_head.ensures c.in_default.not-Value ∙ c.loop-len.invariant
 
 pub overflow_add-at : goal.overflow_add-at
 overflow_add-at c = let fits = item-fits _ _ _ c.read_head.ensures c.in-Value.is in omega arith
@@ -38,13 +35,17 @@ loop-len-smaller-then-used-lt8 c = item_less _ _ _ c.read_head.ensures c.in-Valu
 
 pub loop-len-preserved-then-used-lt8 : goal.loop-len-preserved-then-used-lt8
 loop-len-preserved-then-used-lt8 c = fold_item _ _ _ _ _ c.read_head.ensures c.in-Value.is
-    (with_client_child_lem _ _ _ _ c.is_client.ensures c.if-is_client.true c.if-used-lt8.true c.client_at-one.ensures)
+    (with_client_child_lem _ _ _ _ c.is_client.ensures c.if-is_client.true (lt-ltb _ _ c.if-used-lt8.true) c.client_at-one.ensures)
     ∙ c.loop-len.invariant
 
 pub loop-len-smaller : goal.loop-len-smaller
 loop-len-smaller c = item_less _ _ _ c.read_head.ensures c.in-Value.is
 
 pub loop-len-preserved : goal.loop-len-preserved
-loop-len-preserved c = fold_item _ _ _ _ _ c.read_head.ensures c.in-Value.is
-    (⊎_elim (λ came. full-client_child _ _ _ _ c.is_client.ensures came.0.true came.1.false) (λ came. no_client_child _ _ _ _ c.is_client.ensures came.false)
-    c.else-is_client.branch) ∙ c.loop-len.invariant
+loop-len-preserved c =
+    let kept : c.loop-len.clients ≡ with_client_child c.args.message.now c.loop-len.at c.in-Value.len c.loop-len.clients =
+    elim c.else-is_client.branch [
+      | else-is_client-via-then-is_client+else-used-lt8 w ↦ full-client_child _ _ _ _ c.is_client.ensures w.if-is_client.true (le-ltb _ _ w.if-used-lt8.false)
+      | else-is_client-via-else-is_client w ↦ no_client_child _ _ _ _ c.is_client.ensures w.if-is_client.false
+    ] in
+    fold_item _ _ _ _ _ c.read_head.ensures c.in-Value.is kept ∙ c.loop-len.invariant

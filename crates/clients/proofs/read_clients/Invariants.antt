@@ -1,17 +1,10 @@
 -- `clients::read_clients` gives clients_in.
--- The loop keeps that the fold from `at` on, over what it has, is the fold from the start. Every turn is one more step of that fold; what is left falls.
+-- The loop keeps that the fold from `at` on, over what it has, is the fold from the start; what is left falls.
 -- Trusts: nothing.
-use borrow.Author.Rules.{rules}
 use Prim.Native.Nat.{◌-◌}
-use mathlib.Core.Path.{◌≡◌, ◌∙◌}
-use mathlib.Core.Logic.{⊎_elim}
-use native.Mathlib.Omega.{arith}
-use borrow.Author.Tests.{ltb-true}
+use mathlib.Core.Path.{◌≡◌}
 use Rattle.children.specs.Rows.{row_fold, row_in}
 use Rattle.clients.specs.Clients.{with_client_child, clients_in}
-use Rattle.children.proofs.Laws.{no_value, item-fits, item_less}
-use Rattle.children.proofs.LawsFolds.{fold_stop, fold_item}
-use Rattle.clients.proofs.Laws.{no_client_child, with_client_child_lem, full-client_child}
 use Rattle.clients.proofs.read_clients.Given as goal
 
 abbrev pub invariant-loop-len : goal.invariant-loop-len
