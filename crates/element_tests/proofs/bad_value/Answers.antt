@@ -1,6 +1,5 @@
 -- `element_tests::bad_value` gives `bad_value`, variant by variant.
 -- Trusts: nothing.
-use borrow.Author.Rules.{rules}
 use borrow.Author.Tests.{eq-eqb, ne_eqb}
 use mathlib.Core.Path.{sym, ◌∙◌}
 use Rattle.element_tests.specs.Tests.{bad_value}

@@ -1,7 +1,7 @@
 -- `element_tests::value_place`: beyond the end every number is 0, so the end serves as well as any place behind it.
 -- Trusts: nothing.
 use Prim.Native.Nat.{ℕ, ◌≤◌}
-use mathlib.Core.Path.{◌≡◌, refl, sym, ◌∙◌}
+use mathlib.Core.Path.{◌≡◌, sym, ◌∙◌}
 use mathlib.Core.List.{List}
 use native.Mathlib.Omega.{arith}
 use lib.ListN.{length}

@@ -1,6 +1,5 @@
 -- `element_tests::wrong_length` gives `wrong_length`, variant by variant.
 -- Trusts: nothing.
-use borrow.Author.Rules.{rules}
 use borrow.Author.Tests.{eq-eqb, ne_eqb}
 use Rattle.element_tests.specs.Tests.{wrong_length}
 use Rattle.element_tests.proofs.wrong_length.Goals as goal
