@@ -1,0 +1,8 @@
+-- `texts::put_byte` writes one byte: a store is `wrote_byte`.
+-- Trusts: nothing.
+use borrow.Author.Rules.{rules}
+use Rattle.texts.proofs.Written.{wrote_byte}
+use Rattle.texts.proofs.put_byte.Goals as goal
+
+pub returns : goal.returns
+returns c = wrote_byte _ _ _ c.requires
