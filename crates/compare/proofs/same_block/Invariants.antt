@@ -1,15 +1,11 @@
 -- `compare::same_block` gives `same_bytes` of the two blocks. The loop's invariant: `apart` is 0 exactly where the first `k` bytes of both are the
 -- same; what falls is 256 - k.
 -- Trusts: nothing.
-use mathlib.Core.Path.{◌≡◌, refl, sym, ap, ◌∙◌}
-use mathlib.Core.Bool.{Bool, ◌&&◌}
-use Prim.Native.Nat.{ℕ, ◌+◌, ◌-◌, ◌≤◌}
-use native.Mathlib.Omega.{arith}
-use native.Mathlib.Numerals.{add-one}
-use lib.ListN.{get_or, take, drop}
+use mathlib.Core.Path.{◌≡◌}
+use Prim.Native.Nat.{◌-◌, ◌≤◌}
+use lib.ListN.{take, drop}
 use lib.Dec.{eqb}
 use Rattle.compare.specs.Compare.{same_bytes}
-use Rattle.compare.proofs.Blocks.{gathered, block_more}
 use Rattle.compare.proofs.same_block.Given as goal
 
 abbrev pub invariant-loop-k : goal.invariant-loop-k

@@ -1,12 +1,8 @@
 -- `compare::same_long` gives `same_bytes`. The loop's invariant: the first `i` bytes of both are the same; what falls is the length less `i`.
 -- Trusts: nothing.
-use mathlib.Core.Path.{◌≡◌, refl, sym, ◌∙◌}
+use mathlib.Core.Path.{◌≡◌}
 use Prim.Native.Nat.{◌-◌, ◌≤◌}
-use native.Mathlib.Omega.{arith}
-use borrow.Author.Rules.{rules}
-use borrow.Author.Tests.{not-true, not-false}
 use lib.ListN.{length, take}
-use Rattle.compare.proofs.Blocks.{block_on, block_apart, block_last}
 use Rattle.compare.proofs.same_long.Given as goal
 
 abbrev pub invariant-loop-i : goal.invariant-loop-i

@@ -1,18 +1,9 @@
 -- `compare::same_short` gives `same_bytes`. The loop's invariant: `same` says whether the first `i` bytes of both are the same.
 -- Trusts: nothing.
-use mathlib.Core.Path.{◌≡◌, refl, sym, ◌∙◌}
-use mathlib.Core.Bool.{◌&&◌, and-false, and-true}
-use mathlib.Core.Logic.{⊎_elim}
-use Prim.Native.Nat.{◌+◌, ◌-◌, ◌≤◌}
-use native.Mathlib.Omega.{arith}
-use native.Mathlib.Numerals.{add-one}
-use native.Mathlib.Nat.{le_antisymm}
-use borrow.Author.Tests.{ne_eqb, eq-eqb}
-use lib.ListN.{length, get_or, take}
-use lib.Seq.{take-suc, take-length, length-take-le}
-use lib.Dec.{eqb}
+use mathlib.Core.Path.{◌≡◌}
+use Prim.Native.Nat.{◌-◌, ◌≤◌}
+use lib.ListN.{length, take}
 use Rattle.compare.specs.Compare.{same_bytes}
-use Rattle.compare.proofs.Laws.{same_bytes_snoc}
 use Rattle.compare.proofs.same_short.Given as goal
 
 abbrev pub invariant-loop-i : goal.invariant-loop-i
