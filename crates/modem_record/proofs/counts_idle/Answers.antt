@@ -1,6 +1,5 @@
 -- `modem_record::counts_idle` gives `counts_idle`: each return cites the law of its part; after the last test the chain is what `is_held_over` ensures.
 -- Trusts: nothing.
-use borrow.Author.Rules.{rules}
 use borrow.Author.Tests.{eq-eqb, ne_eqb}
 use mathlib.Core.Path.{sym, ◌∙◌}
 use Rattle.modem_record.proofs.LawsIdle.{or_true, is_unsuited→mark, counts_idle_unsuited, counts_idle_late, counts_idle_rest}

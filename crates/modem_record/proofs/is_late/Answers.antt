@@ -1,7 +1,6 @@
 -- `modem_record::is_late` gives `is_late`: a mark of 0 is never late; any other is so unless it is 1 in OneWay with permission.
 -- Trusts: nothing.
 use native.Mathlib.Omega.{arith}
-use Rattle.modem_record.specs.Idle.{is_late, is_held_over}
 use Rattle.modem_record.proofs.LawsIdle.{is_late-off, is_late-on}
 use Rattle.modem_record.proofs.is_late.Goals as goal
 

@@ -1,6 +1,5 @@
 -- `modem_record::is_unsuited` gives `is_unsuited`: each return cites the law of its test; the last is the bit of the four.
 -- Trusts: nothing.
-use borrow.Author.Rules.{rules}
 use mathlib.Core.Path.{sym}
 use native.Mathlib.Omega.{arith}
 use Rattle.modem_record.proofs.LawsIdle.{or_left, or_right, is_unsuited_state, is_unsuited_over}
