@@ -1,13 +1,7 @@
 -- `held::all_sound` gives `sound_to`. The loop's invariant: `sound` says whether the first `k` slots are; what falls is 16 - k.
 -- Trusts: nothing.
-use mathlib.Core.Path.{◌≡◌, refl, sym, ◌∙◌}
-use mathlib.Core.Bool.{and-false, and-true}
-use mathlib.Core.Logic.{⊎_elim}
+use mathlib.Core.Path.{◌≡◌}
 use Prim.Native.Nat.{◌-◌, ◌≤◌}
-use native.Mathlib.Omega.{arith}
-use native.Mathlib.Numerals.{add-one}
-use borrow.Author.Rules.{rules}
-use borrow.Author.Tests.{not-true, not-false}
 use Rattle.held.specs.Held.{sound_to}
 use Rattle.held.proofs.all_sound.Given as goal
 

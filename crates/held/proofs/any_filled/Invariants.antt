@@ -1,14 +1,10 @@
 -- `held::any_filled` says whether fewer than sixteen slots are empty. The loop's invariant: `some` says whether fewer than `k` of the
 -- first `k` are; what falls is 16 - k.
 -- Trusts: nothing.
-use mathlib.Core.Path.{◌≡◌, refl, ◌∙◌}
-use mathlib.Core.Logic.{⊎_elim}
+use mathlib.Core.Path.{◌≡◌}
 use Prim.Native.Nat.{◌-◌, ◌≤◌}
-use native.Mathlib.Omega.{arith}
-use native.Mathlib.Numerals.{add-one}
 use lib.Dec.{ltb}
 use Rattle.held.specs.Held.{empty_slots}
-use Rattle.held.proofs.Laws.{some_one, some-none}
 use Rattle.held.proofs.any_filled.Given as goal
 
 abbrev pub invariant-loop-k : goal.invariant-loop-k
