@@ -3,7 +3,7 @@
 --   listing-refused   a short buffer                 listing-text    the text was written from 0 on
 --   listing_within    a text that was written lies in the buffer
 -- Trusts: nothing.
-use Prim.Native.Nat.{ℕ, ◌+◌, ◌≤◌, ◌<◌}
+use Prim.Native.Nat.{ℕ, ◌≤◌, ◌<◌}
 use mathlib.Core.Path.{◌≡◌, refl, ap, ◌∙◌}
 use mathlib.Core.Bool.{Bool, true, false, cond}
 use mathlib.Core.List.{List, ◌++◌}

@@ -4,7 +4,7 @@
 --   hexadecimal-none   no digit asked: nothing          hexadecimal-more   else: one digit less of a 16th of the number, then its last digit
 --   length-decimal     below 10 ^ k: at most k bytes    length-hexadecimal   as many bytes as asked
 -- Trusts: nothing.
-use Prim.Native.Nat.{ℕ, zero, suc, ◌+◌, ◌-◌, ◌/◌, ◌%◌, ◌^◌, ◌≤◌, ◌<◌}
+use Prim.Native.Nat.{ℕ, zero, suc, ◌-◌, ◌/◌, ◌%◌, ◌^◌, ◌≤◌, ◌<◌}
 use mathlib.Core.Path.{◌≡◌, refl, ap, ◌∙◌}
 use mathlib.Core.Bool.{Bool, true, false}
 use mathlib.Core.List.{List, [], ◌∷◌, ◌++◌}

@@ -1,7 +1,7 @@
 -- `texts::put_hexadecimal` writes `hexadecimal width n`: no digit, or what `hexadecimal-more` says, one digit less and
 -- then the last one.
 -- Trusts: nothing.
-use Rattle.std.proofs.Common.{◌≡◌, ℕ, ◌-◌, ◌/◌, ◌%◌, ◌<◌, [], ◌∷◌, ◌++◌, sym, ap, ◌∙◌, arith}
+use Rattle.std.proofs.Common.{◌≡◌, ℕ, ◌-◌, ◌/◌, ◌%◌, [], ◌∷◌, ◌++◌, sym, ap, ◌∙◌, arith}
 use Rattle.texts.specs.Text.{digit, hexadecimal}
 use Rattle.texts.proofs.Numbers.{hexadecimal-none, hexadecimal-more}
 use Rattle.texts.proofs.Written.{fits_same, fits-first, fits_rest, wrote_same, wrote_none, wrote_then}

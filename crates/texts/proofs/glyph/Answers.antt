@@ -1,6 +1,5 @@
 -- `texts::glyph` gives `digit`: one answer on each side of its test.
 -- Trusts: nothing.
-use borrow.Author.Rules.{rules}
 use borrow.Author.Tests.{lt-ltb, le-ltb}
 use Rattle.texts.specs.Text.{digit}
 use Rattle.texts.proofs.glyph.Goals as goal

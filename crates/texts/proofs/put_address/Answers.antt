@@ -1,6 +1,6 @@
 -- `texts::put_address` gives `put` of `address`: where it has room, a word and then twelve hexadecimal digits behind it.
 -- Trusts: nothing.
-use Rattle.std.proofs.Common.{refl, sym, ap, not, ◌++◌}
+use Rattle.std.proofs.Common.{refl, sym, ap, not}
 use Rattle.texts.specs.Text.{hexadecimal, address}
 use Rattle.texts.proofs.Numbers.{length-hexadecimal}
 use Rattle.texts.proofs.Written.{fits_rest, wrote_then}

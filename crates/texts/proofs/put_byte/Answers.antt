@@ -1,6 +1,5 @@
 -- `texts::put_byte` writes one byte: a store is `wrote_byte`.
 -- Trusts: nothing.
-use borrow.Author.Rules.{rules}
 use Rattle.texts.proofs.Written.{wrote_byte}
 use Rattle.texts.proofs.put_byte.Goals as goal
 

@@ -1,8 +1,8 @@
 -- `texts::put_field` gives `put` of `field`: where it has room, a word and then a decimal number behind it.
 -- Trusts: nothing.
-use Rattle.std.proofs.Common.{refl, ap, not, ◌++◌}
+use Rattle.std.proofs.Common.{refl, ap, not}
 use Rattle.texts.specs.Text.{decimal, field}
-use Rattle.texts.proofs.Written.{fits_rest, wrote_then}
+use Rattle.texts.proofs.Written.{wrote_then}
 use Rattle.texts.proofs.Puts.{room_past, room_fits, put-room}
 use Rattle.texts.proofs.put_field.Goals as goal
 
