@@ -11,8 +11,7 @@ use dsg_events::event_value;
 use modem_record::Modem;
 
 // One event for a record that the host lends.
-#[unsafe(no_mangle)]
-pub extern "C" fn dsg_event(
+pub fn dsg_event(
     modem: &mut Modem,
     clock: u32,
     event: u8,
@@ -29,24 +28,21 @@ pub extern "C" fn dsg_event(
 }
 
 // Whether the transmitter is on.
-#[unsafe(no_mangle)]
-pub extern "C" fn dsg_transmits(modem: &Modem) -> bool
+pub fn dsg_transmits(modem: &Modem) -> bool
     ensures { result ≡ transmits modem.now }
 {
     modem_asked::transmits(*modem)
 }
 
 // Whether tunnels are forwarded.
-#[unsafe(no_mangle)]
-pub extern "C" fn dsg_forwards(modem: &Modem) -> bool
+pub fn dsg_forwards(modem: &Modem) -> bool
     ensures { result ≡ forwards modem.now }
 {
     modem_asked::forwards(*modem)
 }
 
 // An idle record.
-#[unsafe(no_mangle)]
-pub extern "C" fn dsg_empty_modem() -> Modem
+pub fn dsg_empty_modem() -> Modem
     ensures { result ≡ empty_modem }
 {
     modem_record::empty_modem()

@@ -12,16 +12,14 @@ use table::Table;
 use tunnel_parts::Tunnel;
 
 // The rule for a client, in a table that the host lends.
-#[unsafe(no_mangle)]
-pub extern "C" fn dsg_choose(table: &Table, kind: u8, value: u64, known: u8, ucid: u8) -> Choice
+pub fn dsg_choose(table: &Table, kind: u8, value: u64, known: u8, ucid: u8) -> Choice
     ensures { result ≡ choice_for table.now kind value known ucid }
 {
     choose_value(*table, kind, value, known, ucid)
 }
 
 // The verdict on a frame, by a table that the host lends.
-#[unsafe(no_mangle)]
-pub extern "C" fn dsg_judge(
+pub fn dsg_judge(
     table: &Table,
     kind: u8,
     value: u64,
@@ -35,16 +33,14 @@ pub extern "C" fn dsg_judge(
 }
 
 // The tunnel of a client, from a table that the host lends.
-#[unsafe(no_mangle)]
-pub extern "C" fn dsg_prepare(table: &Table, kind: u8, value: u64, known: u8, ucid: u8) -> Tunnel
+pub fn dsg_prepare(table: &Table, kind: u8, value: u64, known: u8, ucid: u8) -> Tunnel
     ensures { result ≡ prepared_tunnel table.now (client_of kind value) (ucid_of known ucid) }
 {
     prepare_value(*table, kind, value, known, ucid)
 }
 
 // The verdict on a frame, by a prepared tunnel that the host lends. Its arrays are lent on: a frame costs no copy.
-#[unsafe(no_mangle)]
-pub extern "C" fn dsg_judge_prepared(tunnel: &Tunnel, frame: &[u8]) -> Verdict
+pub fn dsg_judge_prepared(tunnel: &Tunnel, frame: &[u8]) -> Verdict
     ensures { result ≡ verdict_as (prepared_verdict tunnel.now frame.now) (length frame.now) }
 {
     judge_parts(

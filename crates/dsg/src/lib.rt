@@ -1,4 +1,4 @@
-// The receiver, and the writer of a head end, for a host in C: thin exported functions over the proved ones, with no meaning of their own.
+// The receiver, and the writer of a head end, for a host in C: thin functions over the proved ones, with no meaning of their own. The crate `dsg_c` exports them.
 //
 // A record is lent by pointer and is one of the lower crates' own `#[repr(C)]` structs; bytes are lent as
 // pointer and length; an answer is a number or a small struct of numbers. An enum cannot cross to C, so

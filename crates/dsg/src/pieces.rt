@@ -11,8 +11,7 @@ use dsg_pieces::{Collected, Received, collect_value, receive_value};
 use table::Table;
 
 // One body for a record that the host lends.
-#[unsafe(no_mangle)]
-pub extern "C" fn dsg_collect(
+pub fn dsg_collect(
     held: &mut Collection,
     slots: &mut [u8],
     join: &mut [u8],
@@ -26,8 +25,7 @@ pub extern "C" fn dsg_collect(
 }
 
 // One body all the way, for a record and a table that the host lends.
-#[unsafe(no_mangle)]
-pub extern "C" fn dsg_receive(
+pub fn dsg_receive(
     held: &mut Collection,
     table: &mut Table,
     slots: &mut [u8],
@@ -43,8 +41,7 @@ pub extern "C" fn dsg_receive(
 }
 
 // A record with nothing collected, loose (0) or strict.
-#[unsafe(no_mangle)]
-pub extern "C" fn dsg_empty_collection(strict: u16) -> Collection
+pub fn dsg_empty_collection(strict: u16) -> Collection
     ensures { result ≡ empty_collection strict 0 0 }
 {
     collection::empty_collection(strict)

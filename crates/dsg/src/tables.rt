@@ -11,8 +11,7 @@ use dsg_tables::{
 use table::Table;
 
 // A message for a table that the host lends.
-#[unsafe(no_mangle)]
-pub extern "C" fn dsg_read(table: &mut Table, message: &[u8]) -> ReadAnswer
+pub fn dsg_read(table: &mut Table, message: &[u8]) -> ReadAnswer
     ensures { record { answer = result; table = table.new } ≡ read_stepped table.old message.now }
 {
     let s = read_value(*table, message);
@@ -21,32 +20,28 @@ pub extern "C" fn dsg_read(table: &mut Table, message: &[u8]) -> ReadAnswer
 }
 
 // The text of a table that the host lends, and of the change count that it came under.
-#[unsafe(no_mangle)]
-pub extern "C" fn dsg_list_table(table: &Table, count: u8, out: &mut [u8]) -> Listed
+pub fn dsg_list_table(table: &Table, count: u8, out: &mut [u8]) -> Listed
     ensures { record { answer = result; out = out.new } ≡ list_after table.now count out.old }
 {
     list_value(*table, count, out)
 }
 
 // What dcdlist writes for one body. It takes some 140 KB of stack.
-#[unsafe(no_mangle)]
-pub extern "C" fn dsg_list_body(body: &[u8], out: &mut [u8]) -> Listed
+pub fn dsg_list_body(body: &[u8], out: &mut [u8]) -> Listed
     ensures { record { answer = result; out = out.new } ≡ body_after body.now out.old }
 {
     list_body_value(body, out)
 }
 
 // The bodies of a table that the host lends, under a change count: body s at (s - 1) x 1,500 of the buffer.
-#[unsafe(no_mangle)]
-pub extern "C" fn dsg_write(table: &Table, count: u8, out: &mut [u8]) -> Written
+pub fn dsg_write(table: &Table, count: u8, out: &mut [u8]) -> Written
     ensures { record { answer = result; out = out.new } ≡ write_after table.now count out.old }
 {
     write_value(*table, count, out)
 }
 
 // The table of the empty message.
-#[unsafe(no_mangle)]
-pub extern "C" fn dsg_empty_table() -> Table
+pub fn dsg_empty_table() -> Table
     ensures { result ≡ empty_table }
 {
     table::empty_table()
