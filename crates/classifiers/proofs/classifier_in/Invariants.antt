@@ -1,20 +1,11 @@
 -- `classifiers::classifier_in` gives the fold of with_classifier_child.
 -- The loop keeps that the fold from `at` on, over what it has, is the fold from the start. Every arm is one more step of that fold; what is left falls.
 -- Trusts: nothing.
-use borrow.Author.Rules.{rules}
-use Prim.Native.Nat.{ℕ, ◌+◌, ◌-◌, ◌≤◌, ◌<◌}
-use mathlib.Core.Path.{◌≡◌, ◌∙◌}
-use mathlib.Core.List.{List}
-use lib.ListN.{length}
-use native.Mathlib.Omega.{arith}
-use Rattle.numbers.proofs.Laws.{number_at_one}
+use Prim.Native.Nat.{◌-◌}
+use mathlib.Core.Path.{◌≡◌}
 use Rattle.table.specs.Table.{empty_classifier}
-use Rattle.table.specs.declared.Classifier.{Classifier}
 use Rattle.children.specs.Rows.{row_fold, row_in}
-use Rattle.children.proofs.Laws.{no_value, item-fits, item_less}
-use Rattle.children.proofs.LawsFolds.{fold_stop, fold_item}
 use Rattle.classifiers.specs.Classifiers.{with_classifier_child}
-use Rattle.classifiers.proofs.Laws.{with_classifier_child-number, with_classifier_child-priority, with_classifier_child-part, with_classifier_child-other}
 use Rattle.classifiers.proofs.classifier_in.Given as goal
 
 abbrev pub invariant-loop-len : goal.invariant-loop-len

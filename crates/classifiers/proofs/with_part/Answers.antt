@@ -1,13 +1,10 @@
 -- `classifiers::with_part` gives with_part.
 -- The loop keeps that the fold from `at` on, over what it has, is the fold from the start. Every turn is one more step of that fold; what is left falls.
 -- Trusts: nothing.
-use borrow.Author.Rules.{rules}
-use Prim.Native.Nat.{◌-◌}
-use mathlib.Core.Path.{◌≡◌, refl, ◌∙◌}
+use mathlib.Core.Path.{refl, ◌∙◌}
 use native.Mathlib.Omega.{arith}
-use Rattle.children.specs.Rows.{row_fold, row_in}
-use Rattle.classifiers.specs.Classifiers.{with_part_child, with_part}
-use Rattle.children.proofs.Laws.{no_value, item-fits, item_less}
+use Rattle.classifiers.specs.Classifiers.{with_part}
+use Rattle.children.proofs.Laws.{item-fits, item_less}
 use Rattle.children.proofs.LawsFolds.{fold_stop, fold_item}
 use Rattle.classifiers.proofs.with_part.Goals as goal
 
@@ -16,7 +13,7 @@ unfolding with_part
 loop-len-init c = refl
 
 pub returns-in_default : goal.returns-in_default
-returns-in_default c = fold_stop _ _ _ _ _ c.read_head.ensures (no_value c.in_default.in_default-own.keys2) ∙ c.loop-len.invariant
+returns-in_default c = fold_stop _ _ _ _ _ c.read_head.ensures c.in_default.not-Value ∙ c.loop-len.invariant
 
 pub with_part_child-classifier-requires : goal.with_part_child-classifier-requires
 with_part_child-classifier-requires c = let fits = item-fits _ _ _ c.read_head.ensures c.in-Value.is in omega arith

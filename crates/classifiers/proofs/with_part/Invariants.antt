@@ -1,14 +1,10 @@
 -- `classifiers::with_part` gives with_part.
 -- The loop keeps that the fold from `at` on, over what it has, is the fold from the start. Every turn is one more step of that fold; what is left falls.
 -- Trusts: nothing.
-use borrow.Author.Rules.{rules}
 use Prim.Native.Nat.{◌-◌}
-use mathlib.Core.Path.{◌≡◌, refl, ◌∙◌}
-use native.Mathlib.Omega.{arith}
+use mathlib.Core.Path.{◌≡◌}
 use Rattle.children.specs.Rows.{row_fold, row_in}
 use Rattle.classifiers.specs.Classifiers.{with_part_child, with_part}
-use Rattle.children.proofs.Laws.{no_value, item-fits, item_less}
-use Rattle.children.proofs.LawsFolds.{fold_stop, fold_item}
 use Rattle.classifiers.proofs.with_part.Given as goal
 
 abbrev pub invariant-loop-len : goal.invariant-loop-len

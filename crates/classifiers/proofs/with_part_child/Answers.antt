@@ -1,6 +1,6 @@
 -- `classifiers::with_part_child` gives with_part_child: a return for each type, in the order of its tests.
 -- Trusts: nothing.
-use borrow.Author.Rules.{rules}
+use native.Mathlib.Omega.{arith}
 use Rattle.classifiers.proofs.Laws.{with_part_child-source, with_part_child-mask, with_part_child-destination, with_part_child-start, with_part_child-end, with_part_child-other}
 use Rattle.classifiers.proofs.with_part_child.Goals as goal
 
@@ -20,4 +20,4 @@ pub returns-in-10 : goal.returns-in-10
 returns-in-10 c = with_part_child-end _ _ _ _ c.in-10.is c.number2-in-10.ensures
 
 pub returns-in_default : goal.returns-in_default
-returns-in_default c = with_part_child-other _ _ _ _ c.in_default.in_default-own.rest.0.0.0.0.1 c.in_default.in_default-own.rest.0.0.0.1 c.in_default.in_default-own.rest.0.0.1 c.in_default.in_default-own.rest.0.1 c.in_default.in_default-own.rest.1
+returns-in_default c = with_part_child-other _ _ _ _ (omega arith) (omega arith) (omega arith) (omega arith) (omega arith)
