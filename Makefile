@@ -9,7 +9,7 @@ BIN := host/target/release
 MACHINE := $(shell uname -m)
 BOARDS := target/boards/x86_64/libdsg.a target/boards/aarch64/libdsg.a
 LIBRARY := target/boards/$(MACHINE)/libdsg.a
-PROVED := crates.txt $(shell find crates -name '*.rt' -o -name '*.antt')
+PROVED := crates.txt $(shell find crates -name out -prune -o \( -name '*.rt' -o -name '*.antt' \) -print)
 
 ifeq ($(filter $(LIBRARY),$(BOARDS)),)
 $(error this machine is $(MACHINE): dsg is for x86_64 and aarch64 Linux)
@@ -27,42 +27,40 @@ COUNT := 60000
 AREA := all
 MEMCHECK_COUNT := 10000
 
-.PHONY: sample dcdlist setup test after-prove layout prove edits library boards boards-test host host-test samples host-c headend bench \
+.PHONY: sample dcdlist setup test after-prove prove edits library boards boards-test host host-test samples host-c headend bench \
         memcheck measure install uninstall install-test clean help
 
 sample: dcdlist ## build dcdlist and list document 01's example body (the default)
 	@examples/bytes < examples/bodies/accepted-m.hex | tools/run target/bin/dcdlist
 
 dcdlist: ## prove and build the program target/bin/dcdlist
-	@mkdir -p $(LOGS)
+	@mkdir -p $(LOGS) target/bin
 	@echo 'proving dcdlist and all that it stands on (minutes the first time) ..' >&2
-	@rt check dcdlist > $(LOGS)/dcdlist 2>&1 || { tail -n 40 $(LOGS)/dcdlist >&2; exit 1; }
+	@(cd crates/dcdlist && rt run < stdin) > $(LOGS)/dcdlist 2>&1 || { tail -n 40 $(LOGS)/dcdlist >&2; exit 1; }
+	@cp crates/dcdlist/out/dcdlist target/bin/dcdlist
 
 setup: ## install what the tests call and this machine lacks
 	@tools/setup
 
-test: setup layout prove ## everything that the gate asks; the last line is rt ci's verdict
+test: setup prove ## everything that the gate asks; the last line is rt ci's verdict
 	@$(MAKE) --no-print-directory after-prove
 	@tail -n 1 $(LOGS)/ci
 
 after-prove: edits samples host-test host-c headend bench memcheck boards-test install-test
 
-layout: ## are all Rattle files laid out as rt fmt lays them out?
-	@rt fmt --check
-
-prove: ## prove every crate from nothing, and try every must-fail edit
+prove: ## prove every crate, run the program, and try every must-fail edit
 	@mkdir -p $(LOGS)
 	@rt ci 2>&1 | tee $(LOGS)/ci
+	@if grep -q '^rt: ok.* bad' $(LOGS)/ci; then echo 'make prove: a must-fail edit is bad' >&2; exit 1; fi
 
 edits: ## was each must-fail edit refused for the reason that it names? (reads what `make prove` wrote)
-	@tools/check-edits
+	@tools/check-edits $(LOGS)/ci
 
-library: $(LIBRARY) ## prove dsg and build the archive for this processor, for C and Rust to link
+library: $(LIBRARY) ## prove dsg_c and build the archive for this processor, for C and Rust to link
 
 boards: $(BOARDS) ## the archives for both processors: target/boards/x86_64/libdsg.a, target/boards/aarch64/libdsg.a
 	@ls -l $(BOARDS)
 
-# One proof and one module make both.
 $(BOARDS) &: $(PROVED) tools/library tools/kit.sh
 	@mkdir -p $(LOGS)
 	@tools/library > $(LOGS)/library 2>&1 || { tail -n 40 $(LOGS)/library >&2; exit 1; }

@@ -8,8 +8,8 @@
 ghost use Rattle.std.specs.Prelude.{◌≤◌, length};
 ghost use Rattle.dcdlist.specs.Input.{bytes_read};
 
-use libc::{STDIN_FILENO, STDOUT_FILENO};
 use notices::{LISTING_BYTES, Listed};
+use std::io::{Read, Write};
 
 // What was read.
 #[derive(Clone, Copy)]
@@ -21,23 +21,22 @@ enum Input {
 }
 
 // Reads once.
-fn read_some(buffer: &mut [u8]) -> Input
+fn read_some<R: Read>(from: &mut R, buffer: &mut [u8]) -> Input
     ensures { bytes_read result ≤ length buffer.new }
 {
-    let got = libc::read(STDIN_FILENO, buffer);
-    if got < 0 {
-        return Input::Failed;
+    match from.read(buffer) {
+        Ok(n) => Input::Bytes(n),
+        Err(_) => Input::Failed,
     }
-    Input::Bytes(io::count(got, buffer))
 }
 
 // Reads to the end of the input, or until the buffer is full.
-fn read_input(buffer: &mut [u8]) -> Input
+fn read_input<R: Read>(from: &mut R, buffer: &mut [u8]) -> Input
     ensures { bytes_read result ≤ length buffer.new }
 {
     let mut n = 0;
     while n < buffer.len() {
-        let some = read_some(&mut buffer[n..]);
+        let some = read_some(from, &mut buffer[n..]);
         let Input::Bytes(more) = some else {
             return Input::Failed;
         };
@@ -50,22 +49,22 @@ fn read_input(buffer: &mut [u8]) -> Input
 }
 
 // Writes the listing of a body.
-fn write_listing(body: &[u8]) {
+fn write_listing<W: Write>(to: &mut W, body: &[u8]) {
     let mut text = [0u8; LISTING_BYTES];
     let listed = bodies::list_body(body, &mut text);
     match listed {
-        Listed::Text(n) => {
-            io::write_all(STDOUT_FILENO, &text[..n]);
-        }
+        Listed::Text(n) => match to.write_all(&text[..n]) {
+            Ok(()) | Err(_) => {}
+        },
         Listed::Refused(_) => {}
     }
 }
 
-fn main() {
+fn main(rt: HostRuntime) {
     let mut body = [0u8; 1501];
-    let input = read_input(&mut body);
+    let input = read_input(&mut rt.stdin(), &mut body);
     match input {
-        Input::Bytes(n) => write_listing(&body[..n]),
+        Input::Bytes(n) => write_listing(&mut rt.stdout(), &body[..n]),
         Input::Failed => {}
     }
 }
