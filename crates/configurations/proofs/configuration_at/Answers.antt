@@ -1,16 +1,15 @@
 -- `configurations::configuration_at` gives configuration_at: the fold over the row that the element's value is, and the empty value where no element stands.
 -- Trusts: nothing.
-use borrow.Author.Rules.{rules}
 use mathlib.Core.Path.{◌∙◌}
 use native.Mathlib.Omega.{arith}
-use Rattle.children.proofs.Laws.{no_value, item-fits}
+use Rattle.children.proofs.Laws.{item-fits}
 use Rattle.children.proofs.LawsFolds.{inside_stop, inside-item}
 use Rattle.configurations.specs.Configurations.{configuration_at}
 use Rattle.configurations.proofs.configuration_at.Goals as goal
 
 pub returns-in_default : goal.returns-in_default
 unfolding configuration_at
-returns-in_default c = c.empty_configuration.ensures ∙ inside_stop _ _ _ _ c.read_head.ensures (no_value c.in_default.in_default-own.keys2)
+returns-in_default c = c.empty_configuration.ensures ∙ inside_stop _ _ _ _ c.read_head.ensures c.in_default.not-Value
 
 pub overflow_add-value : goal.overflow_add-value
 overflow_add-value c = let fits = item-fits _ _ _ c.read_head.ensures c.in-Value.is in omega arith

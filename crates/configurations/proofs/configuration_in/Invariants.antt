@@ -1,19 +1,10 @@
 -- `configurations::configuration_in` gives the fold of with_configuration_child.
 -- The loop keeps that the fold from `at` on, over what it has, is the fold from the start. Every turn is one more step of that fold; what is left falls.
 -- Trusts: nothing.
-use borrow.Author.Rules.{rules}
-use Prim.Native.Nat.{ℕ, ◌+◌, ◌-◌, ◌≤◌, ◌<◌}
-use mathlib.Core.Path.{◌≡◌, ◌∙◌}
-use mathlib.Core.List.{List}
-use lib.ListN.{length}
-use native.Mathlib.Omega.{arith}
+use Prim.Native.Nat.{◌-◌}
+use mathlib.Core.Path.{◌≡◌}
 use Rattle.children.specs.Rows.{row_fold, row_in}
 use Rattle.configurations.specs.Configurations.{empty_configuration, with_configuration_child}
-use Rattle.configurations.specs.declared.Configuration.{Configuration}
-use Rattle.children.proofs.Laws.{no_value, item-fits, item_less}
-use Rattle.configurations.specs.declared.Configuration.{Configuration}
-use Rattle.children.proofs.LawsFolds.{fold_stop, fold_item}
-use Rattle.configurations.proofs.Laws.{with_timer_child, with_channel_child, full-channel_child}
 use Rattle.configurations.proofs.configuration_in.Given as goal
 
 abbrev pub invariant-loop-len : goal.invariant-loop-len

@@ -1,6 +1,7 @@
 -- `configurations::with_timer` gives with_timer: a return for each type, in the order of its tests.
 -- Trusts: nothing.
-use borrow.Author.Rules.{rules}
+use native.Mathlib.Omega.{arith}
+use lib.ListN.{get_or}
 use borrow.Author.Tests.{ne_eqb}
 use Rattle.configurations.specs.Configurations.{with_timer}
 use Rattle.configurations.proofs.with_timer.Goals as goal
@@ -23,4 +24,6 @@ returns-in-5 c = simp (c.in-5.is, c.number2-seconds.ensures)
 
 pub returns-in_default : goal.returns-in_default
 unfolding with_timer
-returns-in_default c = simp (ne_eqb _ _ c.in_default.in_default-own.rest.0.0.0.1, ne_eqb _ _ c.in_default.in_default-own.rest.0.0.1, ne_eqb _ _ c.in_default.in_default-own.rest.0.1, ne_eqb _ _ c.in_default.in_default-own.rest.1)
+returns-in_default c =
+    let kind = get_or c.args.message.now c.args.at 0 in
+    simp (ne_eqb kind 2 (omega arith), ne_eqb kind 3 (omega arith), ne_eqb kind 4 (omega arith), ne_eqb kind 5 (omega arith))
