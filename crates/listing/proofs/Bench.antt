@@ -2,13 +2,12 @@
 -- Trusts: nothing.
 use Prim.Native.Nat.{ℕ}
 use mathlib.Core.Path.{◌≡◌, refl}
-use mathlib.Core.List.{List, [], ◌∷◌}
+use mathlib.Core.List.{[], ◌∷◌}
 use lib.ListN.{replicate}
-use Rattle.table.specs.declared.Client.{Client}
 use Rattle.table.specs.declared.Rule.{Rule}
 use Rattle.table.specs.declared.Classifier.{Classifier}
 use Rattle.table.specs.declared.Table.{Table}
-use Rattle.table.specs.Table.{limited_to, rules_of, classifiers_of, channels_of, clients_of, numbers_of, empty_client, empty_rule, empty_classifier, default_timers}
+use Rattle.table.specs.Table.{rules_of, classifiers_of, channels_of, clients_of, numbers_of, empty_client, empty_rule, empty_classifier, default_timers}
 use Rattle.texts.specs.Text.{ascii, digit, decimal, decimal_in, hexadecimal, field, address}
 use Rattle.listing.specs.Text.{sizes_line, rule_line, classifier_line, channel_line, timers_line, lines_of, table_text}
 

@@ -1,15 +1,10 @@
 -- `listing::lines::put_channels` writes a line for each channel. After i turns the lines of the first i stand there (`Turned`); what is left of
 -- the count falls.
 -- Trusts: nothing.
-use Prim.Native.Nat.{◌-◌, ◌<◌}
-use mathlib.Core.Path.{◌≡◌, sym, ◌∙◌}
-use native.Mathlib.Omega.{arith}
-use lib.ListN.{length}
-use borrow.Author.Rules.{rules}
+use Rattle.std.proofs.Common.{◌-◌}
 use Rattle.table.specs.Table.{channels_of}
-use Rattle.table.proofs.Laws.{limited_to_le, length-channels_of, length-channels_of_le, channels_of-at, length_mapped}
 use Rattle.listing.specs.Text.{channel_line}
-use Rattle.texts.proofs.Turns.{Turned, turned_none, turned_length, turned_room, turned_more, turned_all}
+use Rattle.listing.proofs.Turns.{Turned}
 use Rattle.listing.proofs.lines.put_channels.Given as goal
 
 abbrev pub invariant-loop-i : goal.invariant-loop-i

@@ -1,15 +1,10 @@
 -- `listing::lines::put_classifiers` writes a line for each classifier. After i turns the lines of the first i stand there (`Turned`); what is left of
 -- the count falls.
 -- Trusts: nothing.
-use Prim.Native.Nat.{◌-◌, ◌<◌}
-use mathlib.Core.Path.{◌≡◌, sym, ◌∙◌}
-use native.Mathlib.Omega.{arith}
-use lib.ListN.{length}
-use borrow.Author.Rules.{rules}
+use Rattle.std.proofs.Common.{◌-◌}
 use Rattle.table.specs.Table.{classifiers_of}
-use Rattle.table.proofs.Laws.{limited_to_le, length-classifiers_of, length-classifiers_of_le, classifiers_of-at, length_mapped}
 use Rattle.listing.specs.Text.{classifier_line}
-use Rattle.texts.proofs.Turns.{Turned, turned_none, turned_length, turned_room, turned_more, turned_all}
+use Rattle.listing.proofs.Turns.{Turned}
 use Rattle.listing.proofs.lines.put_classifiers.Given as goal
 
 abbrev pub invariant-loop-i : goal.invariant-loop-i
