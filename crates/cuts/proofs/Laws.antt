@@ -6,7 +6,7 @@
 -- Trusts: nothing.
 use Prim.Native.Nat.{ℕ, zero, suc, ◌+◌, ◌-◌, ◌≤◌, ◌<◌}
 use mathlib.Core.Path.{◌≡◌, refl, sym}
-use mathlib.Core.Bool.{true, false, ◌||◌, or_true}
+use mathlib.Core.Bool.{true, false, ◌||◌, or-true}
 use mathlib.Core.List.{List}
 use native.Mathlib.Omega.{arith}
 use borrow.Author.Tests.{eq-eqb, ne_eqb, lt-ltb, le-ltb}
@@ -72,8 +72,8 @@ may_in-free msg at c {h} e never l = rw (row_in_rule msg at (length msg), ← e)
   where
     on : (k : Head) → k ≡ head_at msg at (length msg) → ((len : ℕ) → k ≡ Value len → ⊥)
         → (starts_at (row_with (λ next. row_in msg next (length msg)) at k) c || (eqb c (length msg) || ltb (judged_to (row_with (λ next. row_in msg next (length msg)) at k) (length msg)) c)) ≡ true
-    on End f never = let z = head_at_ends msg at (length msg) (sym f) in simp (lt-ltb (length msg) c (omega arith)) (or_true (eqb c (length msg)))
-    on (Refused n) f never = simp (lt-ltb at c l, ne_eqb at c (λ z. omega arith)) (or_true (eqb c (length msg)))
+    on End f never = let z = head_at_ends msg at (length msg) (sym f) in simp (lt-ltb (length msg) c (omega arith)) (or-true (eqb c (length msg)))
+    on (Refused n) f never = simp (lt-ltb at c l, ne_eqb at c (λ z. omega arith)) (or-true (eqb c (length msg)))
     on (Value len) f never = absurd (never len refl)
 
 -- past the message's end nothing is judged
@@ -82,4 +82,4 @@ unfolding may_in
 may_cut_past msg c l =
     let f = from_rest (length msg) msg 0 (omega arith) (omega arith) in
     let i = f.inside in
-    simp (lt-ltb (judged_to (row_in msg 0 (length msg)) (length msg)) c (omega arith), or_true (eqb c (length msg))) (or_true (starts_at (row_in msg 0 (length msg)) c))
+    simp (lt-ltb (judged_to (row_in msg 0 (length msg)) (length msg)) c (omega arith), or-true (eqb c (length msg))) (or-true (starts_at (row_in msg 0 (length msg)) c))

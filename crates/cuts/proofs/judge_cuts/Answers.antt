@@ -1,14 +1,12 @@
 -- `cuts::judge_cuts` gives `cuts_in`. The loop keeps `Walk`; every turn passes a piece, and what falls is the pieces left.
 -- Trusts: nothing.
 use borrow.Author.Rules.{rules}
-use Prim.Native.Nat.{◌-◌, ◌*◌, ◌≤◌}
 use mathlib.Core.Path.{◌≡◌, refl}
 use native.Mathlib.Omega.{arith}
 use mir.Syntax.{w16}
 use mir.Val.{Fits}
 use lib.ListN.{length, get_or}
-use Rattle.children.proofs.Laws.{no_value}
-use Rattle.cuts.proofs.Walk.{Walk, walk_start, walk_end, walk_past, walk_beyond, walk_free, walk_bad, walk_next}
+use Rattle.cuts.proofs.Walk.{walk_start, walk_end, walk_past, walk_beyond, walk_free, walk_bad, walk_next}
 use Rattle.cuts.proofs.judge_cuts.Goals as goal
 
 pub loop-k-init : goal.loop-k-init
@@ -35,7 +33,7 @@ returns-in_default c =
     let p = c in
     let w = p in
     walk_free _ _ _ _ _ w.loop-k.invariant.2 w.if-n-k.false _ _ refl refl _ p.pass_elements-at.ensures
-    c.read_head.ensures (no_value c.in_default.in_default-own.keys2) c.if-at-cut.true
+    c.read_head.ensures c.in_default.not-Value c.if-at-cut.true
 
 -- it is inside an element
 pub returns-then-at-cut : goal.returns-then-at-cut
@@ -48,10 +46,9 @@ returns-then-at-cut c =
 -- it is good
 pub loop-k-preserved : goal.loop-k-preserved
 loop-k-preserved c =
-    let p = c in
-    let w = p in
-    let inv = w.loop-k.invariant in (
-      omega (arith, w.if-k-ge16.false),
-      omega (arith, short w, inv.1),
-      walk_next _ _ _ _ _ inv.2 w.if-n-k.false _ _ refl refl _ p.pass_elements-at.ensures c.if-at-cut.false,
+    let inv = c.loop-k.invariant in
+    let short : Fits w16 (get_or c.args.lengths c.loop-k.k 0) = search rules in (
+      omega (arith, c.if-k-ge16.false),
+      omega (arith, short, inv.1),
+      walk_next _ _ _ _ _ inv.2 c.if-n-k.false _ _ refl refl _ c.pass_elements-at.ensures c.if-at-cut.false,
     )

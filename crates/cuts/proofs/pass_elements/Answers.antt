@@ -1,10 +1,7 @@
 -- `cuts::pass_elements` gives `Passed`. The loop keeps `Passing`; every turn passes an element, and what falls is the bytes left before the cut.
 -- Trusts: nothing.
-use borrow.Author.Rules.{rules}
-use Prim.Native.Nat.{◌+◌, ◌-◌}
 use mathlib.Core.Path.{refl}
-use native.Mathlib.Omega.{arith}
-use Rattle.cuts.proofs.Passing.{Passing, passing_start, passing_near, passing_long, passing_255, passing_on}
+use Rattle.cuts.proofs.Passing.{passing_long, passing_255, passing_on}
 use Rattle.cuts.proofs.pass_elements.Goals as goal
 
 -- a value ends behind it
