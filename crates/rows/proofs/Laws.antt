@@ -5,7 +5,7 @@
 --   tested_at-next      not refused: the next place is two bytes or more on, and in the message or at its end
 --   tested_at-head      not refused: the head is whole, and the next place is past the value
 --   tested_at_skipped   not refused, a type not listed: the tally stays
---   testedAt-passed    not refused, a listed type: it passed tests 9 to 12, and its list has one more
+--   tested_at-passed    not refused, a listed type: it passed tests 9 to 12, and its list has one more
 --   tested_at-room      the same of a type that repeats: there was room
 -- Trusts: nothing.
 use mathlib.Core.Path.{◌≡◌, refl, ap, ◌∙◌}
@@ -138,13 +138,13 @@ module _ (msg : List ℕ) (at : ℕ) (t : Tally) where
       tested_at_skipped l p = tested_at-head.tally ∙ simp (← e, eq-eqb _ _ p, set_out t.counts 8 0 l)
 
       module _ (n : known.place ≡ 26 → ⊥) where
-        pub testedAt-passed :
+        pub tested_at-passed :
             Passed msg known at tested_at-head.len t.counts × ((tested_at msg at t).tally ≡ record { counts = set t.counts known.list (count_of known t.counts + 1) })
         unfolding element_of counts_after
-        testedAt-passed =
+        tested_at-passed =
             let both = element-passed _ msg 26 at tested_at-head.len t.counts (rw e at n) tested_at-head.fine in
             rw e (both.0, tested_at-head.tally ∙ ap counts_after both.1)
 
         pub tested_at-room : known.repeats ≡ true → count_of known t.counts < known.room
         unfolding is_full
-        tested_at-room y = leb-false known.room (count_of known t.counts) (rw y at testedAt-passed.0.room)
+        tested_at-room y = leb-false known.room (count_of known t.counts) (rw y at tested_at-passed.0.room)

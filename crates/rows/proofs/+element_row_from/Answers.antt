@@ -1,0 +1,109 @@
+-- The cycle of calls {element, row_from}, whose measures and loop are in Invariants.antt. Each return is one law of Ways.
+-- Trusts: nothing.
+use Rattle.std.proofs.Common.{arith, length, refl, sym, ap, ◌∙◌}
+use lib.ListN.{length-set}
+use lib.Seq.{set_out}
+use Rattle.types.proofs.Columns.{columns_only}
+use Rattle.types.proofs.LawsTypes.{type_under-list}
+use Rattle.elements.proofs.Laws.{head_at-fits}
+use Rattle.elements.proofs.Stood.{stood_only}
+use Rattle.rows.proofs.Ways.{row_ends, row-bad, row-stops, row_goes, elem_unlisted, elem_own, elem_leaf, elem_inner, elem_row}
+use Rattle.rows.proofs.+element_row_from.Goals as goal
+use Rattle.rows.proofs.+element_row_from.Goals.{row_from-then-list-lt-NO_LIST, row_from-else-list-lt-NO_LIST}
+
+pub element-returns-then-place-eq-UNLISTED : goal.element-returns-then-place-eq-UNLISTED
+element-returns-then-place-eq-UNLISTED t c =
+    elem_unlisted _ _ _ _ _ (columns_only _ _ c.find_type-known.ensures) c.if-place-eq-UNLISTED.true
+
+pub element-bounds-counts-list : goal.element-bounds-counts-list
+element-bounds-counts-list t c = type_under-list _ _ (columns_only _ _ c.find_type-known.ensures)
+
+pub element-returns-then-own-ne0 : goal.element-returns-then-own-ne0
+element-returns-then-own-ne0 t c =
+    elem_own _ _ _ _ _ {known = c.find_type-known.result}
+    (record { typed = columns_only _ _ c.find_type-known.ensures; listed = c.if-place-eq-UNLISTED.false; tests = c.own_tests-own.ensures })
+    c.if-own-ne0.true
+
+-- the value is no row
+pub element-returns-then-not-is_row : goal.element-returns-then-not-is_row
+element-returns-then-not-is_row t c =
+    elem_leaf _ _ _ _ _ {known = c.find_type-known.result}
+    (record { typed = columns_only _ _ c.find_type-known.ensures; listed = c.if-place-eq-UNLISTED.false; tests = c.own_tests-own.ensures })
+    c.if-own-ne0.false
+    c.is_row.ensures
+    c.if-not-is_row.true
+
+pub element-row_from-inner-requires : goal.element-row_from-inner-requires
+element-row_from-inner-requires t c = omega arith
+
+-- a row that is refused, and one that is not
+pub element-returns-then-inner-ne0 : goal.element-returns-then-inner-ne0
+element-returns-then-inner-ne0 t c =
+    elem_inner _ _ _ _ _ {known = c.find_type-known.result} {own = c.own_tests-own.result}
+    (record { typed = columns_only _ _ c.find_type-known.ensures; listed = c.if-place-eq-UNLISTED.false; tests = c.own_tests-own.ensures })
+    c.if-own-ne0.false
+    c.is_row.ensures
+    c.if-not-is_row.false
+    c.row_from-inner.ensures
+    c.if-inner-ne0.true
+
+pub element-returns : goal.element-returns
+element-returns t c =
+    elem_row _ _ _ _ _ {known = c.find_type-known.result}
+    (record { typed = columns_only _ _ c.find_type-known.ensures; listed = c.if-place-eq-UNLISTED.false; tests = c.own_tests-own.ensures })
+    c.if-own-ne0.false
+    c.is_row.ensures
+    c.if-not-is_row.false
+    c.row_from-inner.ensures
+    c.if-inner-ne0.false
+
+pub row_from-loop-counts-init : goal.row_from-loop-counts-init
+row_from-loop-counts-init t c = record { begun = omega arith; lists = refl; rest = refl }
+
+pub row_from-returns-in-End : goal.row_from-returns-in-End
+row_from-returns-in-End t c = row_ends _ _ _ _ _ _ c.read_head.ensures c.in-End.is c.row_end.ensures ∙ c.loop-counts.invariant.rest
+
+pub row_from-returns-in-Refused : goal.row_from-returns-in-Refused
+row_from-returns-in-Refused t c = row-bad _ _ _ _ _ _ c.read_head.ensures c.in-Refused.is ∙ c.loop-counts.invariant.rest
+
+-- the value lies in the row and in the message
+pub row_from-element-step-requires : goal.row_from-element-step-requires
+row_from-element-step-requires t c =
+    let fits = head_at-fits _ _ _ (sym (stood_only _ _ c.read_head.ensures) ∙ c.in-Value.is) in
+    omega (arith, fits, c.loop-counts.invariant.begun)
+
+-- a child that is refused
+pub row_from-returns-then-step-ne0 : goal.row_from-returns-then-step-ne0
+row_from-returns-then-step-ne0 t c =
+    row-stops _ _ _ _ _ _ c.read_head.ensures c.in-Value.is c.element-step.ensures c.if-step-ne0.true ∙ c.loop-counts.invariant.rest
+
+pub row_from-overflow_add-at : goal.row_from-overflow_add-at
+row_from-overflow_add-at t c =
+    let fits = head_at-fits _ _ _ (sym (stood_only _ _ c.read_head.ensures) ∙ c.in-Value.is) in
+    omega (arith, fits)
+
+pub row_from-overflow_add-at-in-Value : goal.row_from-overflow_add-at-in-Value
+row_from-overflow_add-at-in-Value t c =
+    let fits = head_at-fits _ _ _ (sym (stood_only _ _ c.read_head.ensures) ∙ c.in-Value.is) in
+    omega (arith, fits)
+
+pub row_from-loop-counts-smaller : goal.row_from-loop-counts-smaller
+row_from-loop-counts-smaller t c =
+    let fits = head_at-fits _ _ _ (sym (stood_only _ _ c.read_head.ensures) ∙ c.in-Value.is) in
+    omega (arith, fits)
+
+pub row_from-loop-counts-preserved : goal.row_from-loop-counts-preserved
+row_from-loop-counts-preserved t c = record {
+  begun = omega (arith, c.loop-counts.invariant.begun);
+  lists = elim c.if-list-lt-NO_LIST.branch [
+    | row_from-then-list-lt-NO_LIST w ↦ ap length w.counts-is ∙ simp length-set c.loop-counts.invariant.lists
+    | row_from-else-list-lt-NO_LIST w ↦ ap length w.counts-is ∙ c.loop-counts.invariant.lists
+  ];
+  rest = row_goes _ _ _ _ _ _ c.read_head.ensures c.in-Value.is c.element-step.ensures c.if-step-ne0.false
+      (elim c.if-list-lt-NO_LIST.branch [
+        | row_from-then-list-lt-NO_LIST w ↦ w.counts-is
+        | row_from-else-list-lt-NO_LIST w ↦
+            w.counts-is ∙ sym (set_out _ _ _ (omega (arith, c.loop-counts.invariant.lists, w.if-list-lt-NO_LIST.false)))
+      ])
+      ∙ c.loop-counts.invariant.rest;
+}
