@@ -4,7 +4,7 @@
 --   places_first   an element of this type: the first of the places     places_later   the later ones
 -- Trusts: nothing.
 use Prim.Native.Nat.{ℕ, ◌+◌, ◌-◌}
-use mathlib.Core.Path.{◌≡◌, refl, sym, ap, ◌∙◌}
+use mathlib.Core.Path.{◌≡◌, refl, ◌∙◌}
 use mathlib.Core.List.{List}
 use borrow.Author.Tests.{eq-eqb, ne_eqb}
 use lib.ListN.{get_or}
@@ -12,7 +12,7 @@ use Rattle.elements.specs.Elements.{head_at}
 use Rattle.elements.specs.Stood.{stood}
 use Rattle.elements.specs.declared.Head.{Head}
 use Rattle.elements.specs.declared.Head.TheVariants.{Value}
-use Rattle.children.specs.Rows.{Row, row_in, type_at, places_of}
+use Rattle.children.specs.Rows.{row_in, type_at, places_of}
 use Rattle.children.proofs.Laws.{row_in_stop, row_in_item}
 use Rattle.named.proofs.Lists.{get_or_later}
 

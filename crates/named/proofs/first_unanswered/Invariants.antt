@@ -1,17 +1,14 @@
 -- `named::first_unanswered` gives unanswered. Each of the two labelled loops keeps that its search from where it stands answers for the whole; the
 -- loop over the classifiers keeps that its number is carried by those from the k-th on if it is carried at all. What is left of each falls.
 -- Trusts: nothing.
-use borrow.Author.Rules.{rules}
 use Prim.Native.Nat.{◌-◌, ◌+◌, ◌≤◌}
-use mathlib.Core.Path.{◌≡◌, refl, sym, ◌∙◌}
+use mathlib.Core.Path.{◌≡◌}
 use lib.ListN.{length, drop}
 use Rattle.table.specs.Table.{rules_of, numbers_of}
-use Rattle.table.proofs.Laws.{length_mapped}
 use Rattle.listed.specs.Listed.{is_listed}
-use Rattle.listed.proofs.Laws.{limited_le}
 use Rattle.named.specs.Named.{classifier_numbers, lone_in, lone_of, unanswered}
 use Rattle.named.specs.declared.Found.TheVariants.{Nothing}
-use Rattle.named.proofs.LawsLone.{lone_rule, lone_end, lone_answered, lone_number_lem, lone_done, carried_from, carried_hit, carried_miss, carried_end}
+use Rattle.named.proofs.LawsLone.{carried_from}
 use Rattle.named.proofs.first_unanswered.Given as goal
 
 abbrev pub invariant-loop-k : goal.invariant-loop-k

@@ -1,10 +1,7 @@
 -- `named::named_place` gives named_place: the j-th 50.6 in the row of the i-th 50, or 0 where no element stands.
 -- Trusts: nothing.
-use borrow.Author.Rules.{rules}
-use Prim.Native.Nat.{ℕ}
-use mathlib.Core.Path.{◌≡◌, ◌∙◌}
+use mathlib.Core.Path.{◌∙◌}
 use native.Mathlib.Omega.{arith}
-use mathlib.Core.Logic.{⊎_elim}
 use Rattle.children.proofs.Laws.{item-fits, row_inside-done, row_inside-row}
 use Rattle.named.specs.Named.{named_place}
 use Rattle.named.proofs.named_place.Goals as goal
@@ -12,8 +9,7 @@ use Rattle.named.proofs.named_place.Goals as goal
 pub returns-in_default : goal.returns-in_default
 unfolding named_place
 returns-in_default c =
-    let never = row_inside-done _ _ c.read_head.ensures
-    (λ len v. ⊎_elim (λ (z : ◌≡◌ {A = ℕ} 2 0). omega arith) (λ (z : ◌≡◌ {A = ℕ} 2 1). omega arith) (rw v at c.in_default.in_default-own.keys2)) in
+    let never = row_inside-done _ _ c.read_head.ensures c.in_default.not-Value in
     simp (← c.nth_place-rule.ensures, never)
 
 pub overflow_add-rule : goal.overflow_add-rule

@@ -1,14 +1,9 @@
 -- `named::nth_place` gives the n-th of places_of. The loop keeps that the place it looks for is the one that is `left` places on from `at`.
 -- Trusts: nothing.
-use borrow.Author.Rules.{rules}
-use Prim.Native.Nat.{ℕ, ◌-◌, ◌+◌, ◌≤◌}
-use mathlib.Core.Path.{◌≡◌, refl, ◌∙◌}
-use native.Mathlib.Omega.{arith}
-use mathlib.Core.Logic.{⊎_elim}
-use lib.ListN.{length, get_or}
+use Prim.Native.Nat.{◌-◌}
+use mathlib.Core.Path.{◌≡◌}
+use lib.ListN.{get_or}
 use Rattle.children.specs.Rows.{row_in, places_of}
-use Rattle.children.proofs.Laws.{item-fits}
-use Rattle.named.proofs.LawsPlaces.{places_stop, places_other, places_first, places_later}
 use Rattle.named.proofs.nth_place.Given as goal
 
 abbrev pub invariant-loop-len : goal.invariant-loop-len
