@@ -1,20 +1,10 @@
 -- `tunnel_parts::first_match` gives the first entry that matches. The invariant: the first from `i` on is the first of all; `n - i` falls.
 -- Trusts: nothing.
-use borrow.Author.Rules.{rules}
-use borrow.Author.Tests.{not-true, not-false}
-use Prim.Native.Nat.{ℕ, ◌+◌, ◌≤◌, ◌-◌}
-use mathlib.Core.Path.{◌≡◌, sym, ◌∙◌}
-use mathlib.Core.Bool.{Bool}
-use mathlib.Core.List.{List}
-use native.Mathlib.Nat.{sub-zero, zero-add, le_antisymm}
-use native.Mathlib.Numerals.{add-one}
-use Rattle.table.proofs.Laws.{limited_to_le}
+use Prim.Native.Nat.{◌+◌, ◌≤◌, ◌-◌}
+use mathlib.Core.Path.{◌≡◌}
 use Rattle.order.specs.Best.{first_place}
-use Rattle.tunnel_parts.specs.declared.Tunnel.{Tunnel}
 use Rattle.matching.specs.Entry.{matches_entry}
 use Rattle.tunnel_parts.specs.Prepared.{entry_at, list_from, entries_of, lent_tunnel}
-use Rattle.matching.proofs.Entries.{matches_entry_ipv4}
-use Rattle.tunnel_parts.proofs.Lists.{first_place_foreign, first_from_found, first_from_passed, first_from_end}
 use Rattle.tunnel_parts.proofs.first_match.Given as goal
 
 abbrev pub invariant-loop-i : goal.invariant-loop-i
