@@ -1,12 +1,9 @@
 -- `writing_lists::classifiers_fit` goes over the used places, and keeps Used; then over the others, and keeps Unused.
 -- Trusts: nothing.
-use borrow.Author.Rules.{rules}
 use Prim.Native.Nat.{◌-◌}
 use Rattle.table.specs.declared.Classifier.{Classifier}
-use Rattle.listed.proofs.Laws.{limited_le}
 use Rattle.writing_entries.specs.Entries.{sound_classifier, unused_classifier}
-use Rattle.writing_lists.specs.Lists.{classifiers_fit}
-use Rattle.writing_lists.proofs.Numbered.{Used, used_none, used_more, Unused, unused_none, unused_more, unused_end}
+use Rattle.writing_lists.proofs.Numbered.{Used, Unused}
 use Rattle.writing_lists.proofs.classifiers_fit.Given as goal
 
 abbrev pub invariant-loop-i : goal.invariant-loop-i
