@@ -5,7 +5,7 @@
 --   settled_loose, settled_good, settled-bad    what a message of several pieces comes to
 --   step_refused, step_again, step_stored, step_waiting, step_alone, step_joined    each answer of the code, as the step has it
 -- Trusts: nothing.
-use Prim.Native.Nat.{ℕ, zero, suc, ◌+◌, ◌-◌, ◌≤◌, ◌<◌}
+use Prim.Native.Nat.{ℕ, zero, suc, ◌-◌, ◌≤◌, ◌<◌}
 use mathlib.Core.Path.{◌≡◌, refl}
 use mathlib.Core.Bool.{Bool, true, false, cond}
 use mathlib.Core.List.{List, [], ◌∷◌, ◌++◌}
