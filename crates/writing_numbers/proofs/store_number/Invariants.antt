@@ -1,11 +1,6 @@
 -- `writing_numbers::store_number` writes an element with a number. The loop stores its bytes from the last to the first (`Stored`); what falls is k.
 -- Trusts: nothing.
-use Prim.Native.Nat.{◌+◌, ◌-◌, ◌≤◌}
-use mathlib.Core.Path.{◌∙◌}
-use native.Mathlib.Omega.{arith}
-use native.Mathlib.Nat.{mod-lt}
-use lib.ListN.{length, length-set}
-use Rattle.writing_numbers.proofs.Stored.{Stored, stored-none, stored-length, stored_more, stored-all, wrote-element}
+use Rattle.writing_numbers.proofs.Stored.{Stored}
 use Rattle.writing_numbers.proofs.store_number.Given as goal
 
 abbrev pub invariant-loop-k : goal.invariant-loop-k
