@@ -3,13 +3,13 @@
 --   no_one_rule       a function that meets the promise does not give every client the same answer
 --   no_text_order     nor does it compare priorities as text: application 42 of message M does not get rule 6
 -- Trusts: nothing.
-use mathlib.Core.Path.{◌≡◌, refl, sym, ◌∙◌}
+use mathlib.Core.Path.{◌≡◌, sym, ◌∙◌}
 use Prim.Native.Nat.{ℕ}
 use native.Mathlib.Omega.{arith}
 use Rattle.table.specs.declared.Client.{Client}
 use Rattle.table.specs.declared.Table.{Table}
 use Rattle.choice.specs.declared.Ucid.{Ucid}
-use Rattle.choice.specs.declared.Ucid.TheVariants.{Unknown, Known}
+use Rattle.choice.specs.declared.Ucid.TheVariants.{Unknown}
 use Rattle.choice.specs.declared.Choice.{Choice}
 use Rattle.choice.specs.declared.Choice.TheVariants.{Chosen, Refused}
 use Rattle.choice.specs.Choose.{choice_of}

@@ -24,7 +24,7 @@ use Rattle.table.proofs.Laws.{limited_to_le}
 use Rattle.choice.specs.declared.Ucid.{Ucid}
 use Rattle.choice.specs.declared.Choice.{Choice}
 use Rattle.choice.specs.declared.Choice.TheVariants.{Chosen, Refused}
-use Rattle.order.specs.Best.{comes_before, best_place}
+use Rattle.order.specs.Best.{comes_before}
 use Rattle.choice.specs.Choose.{lists_client, fits_client, chosen_place, choice_of, rule_at, FitsBest}
 use Rattle.order.proofs.Order.{comes_before-yes, comes_before_no}
 use Rattle.order.proofs.Places.{best_place-none, best_place_le}

@@ -8,18 +8,18 @@ use mathlib.Core.Path.{◌≡◌, refl, sym, ap, ◌∙◌}
 use mathlib.Core.Bool.{Bool, true, false}
 use mathlib.Core.List.Memᴰ
 use mathlib.Core.List.Permᴰ
-use mathlib.Core.List.{List, [], ◌∷◌, Memᴰ, Permᴰ}
+use mathlib.Core.List.{List, ◌∷◌, Memᴰ, Permᴰ}
 use mathlib.Core.Logic.{◌⊎◌, inl, inr}
 use Prim.Native.Nat.{ℕ, ◌≤◌, ◌<◌}
 use native.Mathlib.Nat.{le_antisymm}
 use lib.Dec.{ltb}
-use lib.ListN.{length, get_or, get_or-eq_default}
+use lib.ListN.{length, get_or-eq_default}
 use borrow.Author.Tests.{ltb-true, ltb-false}
 use Rattle.table.specs.declared.Client.{Client}
 use Rattle.table.specs.declared.Rule.{Rule}
 use Rattle.table.specs.Table.{empty_rule}
 use Rattle.choice.specs.declared.Ucid.{Ucid}
-use Rattle.order.specs.Best.{comes_before, best_place}
+use Rattle.order.specs.Best.{comes_before}
 use Rattle.choice.specs.Choose.{fits_client, chosen_place, chosen_rule}
 use Rattle.order.proofs.Order.{comes_before_tied}
 use Rattle.order.proofs.Places.{clash, best_place_le}

@@ -13,7 +13,7 @@
 -- A client of kind 0 is the length-0 broadcast and fits an entry of kind 0 only, also where values are 0.
 -- Tested by: message M in proofs/Bench.antt; random tables against the other program.
 -- Trusts: nothing.
-use Rattle.std.specs.Prelude.{ℕ, ◌≤◌, ◌<◌, ◌≡◌, Bool, true, false, cond, ◌&&◌, ◌||◌, List, length, get_or, ltb, eqb}
+use Rattle.std.specs.Prelude.{ℕ, ◌≤◌, ◌<◌, ◌≡◌, Bool, true, cond, ◌&&◌, ◌||◌, List, length, get_or, ltb, eqb}
 use Rattle.table.specs.declared.Client.{Client}
 use Rattle.table.specs.declared.Rule.{Rule}
 use Rattle.table.specs.declared.Table.{Table}

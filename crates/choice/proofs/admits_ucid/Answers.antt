@@ -1,10 +1,8 @@
 -- `choice::admits_ucid` gives `admits_ucid`: no list, then no known UCID, then the list.
 -- Trusts: nothing.
-use borrow.Author.Rules.{rules}
 use borrow.Author.Tests.{eq-eqb, ne_eqb}
-use mathlib.Core.Path.{◌≡◌, refl, sym, ◌∙◌}
+use mathlib.Core.Path.{◌≡◌, sym}
 use mathlib.Core.Bool.{true}
-use lib.Dec.{eqb}
 use Rattle.table.specs.declared.Rule.{Rule}
 use Rattle.choice.specs.declared.Ucid.{Ucid}
 use Rattle.choice.specs.declared.Ucid.TheVariants.{Unknown, Known}

@@ -1,17 +1,11 @@
 -- `choice::choose_rule` gives `choice_of`. The invariant: the walk from `i` on with the best so far ends as the whole walk does; `n - i` falls.
 -- What the whole walk finds is the choice, by Walk.
 -- Trusts: nothing.
-use borrow.Author.Rules.{rules}
 use Prim.Native.Nat.{◌≤◌, ◌-◌}
-use mathlib.Core.Path.{◌≡◌, refl, sym, ap, ◌∙◌}
-use mathlib.Core.Logic.{⊎_elim}
-use native.Mathlib.Omega.{arith}
+use mathlib.Core.Path.{◌≡◌}
 use lib.ListN.{length, take, drop}
-use Rattle.table.proofs.Laws.{limited_to_le, length_mapped}
-use Rattle.table.specs.Table.{rules_of}
-use Rattle.order.proofs.Scan.{nothing, scan_more, scan_end}
-use Rattle.choice.specs.Chose.{chose}
-use Rattle.choice.proofs.Walk.{walk, refuses, chooses, stays}
+use Rattle.order.proofs.Scan.{nothing}
+use Rattle.choice.proofs.Walk.{walk}
 use Rattle.choice.proofs.choose_rule.Given as goal
 
 abbrev pub invariant-loop-i : goal.invariant-loop-i

@@ -1,6 +1,5 @@
 -- `choice::fits_client` gives `fits_client`: the list of clients, then the UCID.
 -- Trusts: nothing.
-use borrow.Author.Rules.{rules}
 use Rattle.choice.specs.Choose.{fits_client}
 use Rattle.choice.proofs.fits_client.Goals as goal
 

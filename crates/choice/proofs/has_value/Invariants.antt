@@ -1,21 +1,13 @@
 -- `choice::has_value` says no only of a rule that does not list the client. The invariant: where no value was the client's so far, the
 -- clients from `j` on have the client where all have it; `8 - j` falls.
 -- Trusts: nothing.
-use borrow.Author.Rules.{rules}
-use Prim.Native.Nat.{◌≤◌, ◌<◌, ◌-◌}
-use mathlib.Core.Path.{◌≡◌, sym, ◌∙◌}
-use mathlib.Core.Bool.{Bool, true, false, ◌||◌, and-false}
-use native.Mathlib.Nat.{sub-zero}
-use native.Mathlib.Omega.{arith}
-use lib.Dec.{eqb}
+use Prim.Native.Nat.{◌≤◌, ◌-◌}
+use mathlib.Core.Path.{◌≡◌}
+use mathlib.Core.Bool.{false}
 use lib.ListN.{length, take, drop}
-use Rattle.table.proofs.Laws.{limited_to_le, length_mapped}
-use Rattle.table.specs.declared.Client.{Client}
-use Rattle.table.specs.Table.{limited_to, clients_of}
+use Rattle.table.specs.Table.{limited_to}
 use Rattle.order.specs.Best.{any_of}
 use Rattle.choice.specs.Choose.{is_client, lists_client}
-use Rattle.order.proofs.Places.{or_no}
-use Rattle.order.proofs.Search.{any_of_skip, any_of_end}
 use Rattle.choice.proofs.has_value.Given as goal
 
 abbrev pub invariant-loop-j : goal.invariant-loop-j

@@ -1,15 +1,12 @@
 -- `choice::lists_client` gives `lists_client`. The invariant: the clients from `j` on have the client where all have it.
 -- Trusts: nothing.
 use borrow.Author.Rules.{rules}
-use Prim.Native.Nat.{◌≤◌, ◌-◌}
-use mathlib.Core.Path.{◌≡◌, sym, ◌∙◌}
+use mathlib.Core.Path.{sym, ◌∙◌}
 use native.Mathlib.Nat.{sub-zero}
 use native.Mathlib.Omega.{arith}
-use lib.ListN.{length, take, drop}
 use Rattle.table.proofs.Laws.{limited_to_le, length_mapped}
 use Rattle.table.specs.Table.{clients_of}
-use Rattle.order.specs.Best.{any_of}
-use Rattle.choice.specs.Choose.{is_client, lists_client}
+use Rattle.choice.specs.Choose.{lists_client}
 use Rattle.order.proofs.Search.{any_of_found, any_of_passed, any_of_end}
 use Rattle.choice.proofs.lists_client.Goals as goal
 

@@ -2,15 +2,11 @@
 -- Trusts: nothing.
 use borrow.Author.Rules.{rules}
 use borrow.Author.Tests.{eq-eqb, ne_eqb}
-use Prim.Native.Nat.{◌≤◌, ◌-◌}
-use mathlib.Core.Path.{◌≡◌, sym, ◌∙◌}
+use mathlib.Core.Path.{sym, ◌∙◌}
 use native.Mathlib.Nat.{sub-zero}
 use native.Mathlib.Omega.{arith}
-use lib.Dec.{eqb}
-use lib.ListN.{length, take, drop}
 use Rattle.table.proofs.Laws.{limited_to_le, length_mapped}
 use Rattle.table.specs.Table.{ucids_of}
-use Rattle.order.specs.Best.{any_of}
 use Rattle.choice.specs.Choose.{lists_ucid}
 use Rattle.order.proofs.Search.{any_of_found, any_of_passed, any_of_end}
 use Rattle.choice.proofs.lists_ucid.Goals as goal

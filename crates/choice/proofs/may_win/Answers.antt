@@ -1,7 +1,5 @@
 -- `choice::may_win` says no only of a rule that is not better, or does not list the client.
 -- Trusts: nothing.
-use borrow.Author.Rules.{rules}
-use borrow.Author.Tests.{not-true}
 use mathlib.Core.Bool.{and-false}
 use Rattle.choice.specs.Choose.{fits_client}
 use Rattle.choice.proofs.may_win.Goals as goal

@@ -1,11 +1,8 @@
 -- `choice::rule_at` gives `rule_at`: the rule at a used place, else an unused one.
 -- Trusts: nothing.
 use borrow.Author.Rules.{rules}
-use Prim.Native.Nat.{◌<◌}
-use mathlib.Core.Path.{◌≡◌, sym, ◌∙◌}
-use native.Mathlib.Omega.{arith}
-use lib.ListN.{length}
-use Rattle.table.proofs.Laws.{limited_to_le, length_mapped}
+use mathlib.Core.Path.{◌∙◌}
+use Rattle.table.proofs.Laws.{length_mapped}
 use Rattle.choice.proofs.Laws.{rule_at_in, rule_at-out}
 use Rattle.choice.proofs.rule_at.Goals as goal
 
