@@ -10,7 +10,6 @@
 use Rattle.std.specs.Prelude.{ℕ, cond, not, ◌&&◌, List, length, get_or, ltb, eqb}
 use Rattle.table.specs.declared.Client.{Client}
 use Rattle.table.specs.declared.Rule.{Rule}
-use Rattle.table.specs.declared.Classifier.{Classifier}
 use Rattle.table.specs.declared.Table.{Table}
 use Rattle.table.specs.Table.{classifiers_of, empty_classifier}
 use Rattle.choice.specs.declared.Ucid.{Ucid}

@@ -1,17 +1,12 @@
 -- `tunnel::match_place` gives `match_place`. A frame that is no IPv4 packet matches nothing; else the invariant is that the walk from `i` on
 -- ends as the whole walk does; `n - i` falls.
 -- Trusts: nothing.
-use borrow.Author.Rules.{rules}
-use borrow.Author.Tests.{not-true, not-false}
 use Prim.Native.Nat.{◌≤◌, ◌-◌}
-use mathlib.Core.Path.{◌≡◌, sym, ◌∙◌}
-use mathlib.Core.Bool.{true}
-use native.Mathlib.Omega.{arith}
+use mathlib.Core.Path.{◌≡◌}
 use lib.ListN.{length, take, drop}
-use Rattle.table.proofs.Laws.{limited_to_le, length_mapped}
 use Rattle.table.specs.Table.{classifiers_of}
-use Rattle.order.proofs.Scan.{nothing, scan_more, scan_end}
-use Rattle.tunnel.proofs.Walk.{walk, match_place_foreign, match_place-none, match_place-some}
+use Rattle.order.proofs.Scan.{nothing}
+use Rattle.tunnel.proofs.Walk.{walk}
 use Rattle.tunnel.proofs.match_place.Given as goal
 
 abbrev pub invariant-loop-i : goal.invariant-loop-i
