@@ -8,18 +8,18 @@
 --   apart_needed                 with the same count and number held, demand 3 would be false
 -- Trusts: nothing.
 use Prim.Native.Nat.{ℕ, zero, suc, ◌+◌, ◌≤◌, ◌<◌}
-use mathlib.Core.Path.{◌≡◌, refl, sym, ap, ◌∙◌}
+use mathlib.Core.Path.{◌≡◌, refl, ap, ◌∙◌}
 use mathlib.Core.Bool.{true, false}
-use mathlib.Core.List.{List, [], ◌∷◌, ◌++◌}
-use mathlib.Core.Logic.{◌⊎◌, inl, inr}
+use mathlib.Core.List.{List, [], ◌∷◌}
+use mathlib.Core.Logic.{inl, inr}
 use native.Mathlib.Omega.{arith}
-use lib.ListN.{length, get_or, take, drop, replicate, take-append-drop}
+use lib.ListN.{length, get_or, take, drop, replicate}
 use Rattle.compare.specs.Compare.{same_bytes}
-use Rattle.collector.specs.Answers.{refused, again, waiting, complete, lent_of}
+use Rattle.collector.specs.Answers.{again, waiting, complete}
 use Rattle.collection.specs.Record.{empty_collection}
 use Rattle.held.specs.Held.{sound_to, empty_slots, well_made, is_of}
 use Rattle.joining.specs.Pieces.{piece_at}
-use Rattle.body_tests.specs.Refusals.{body_refusal, refusal_of}
+use Rattle.body_tests.specs.Refusals.{body_refusal}
 use Rattle.relation.specs.Relation.{relation_to}
 use Rattle.collector.specs.Step.{accepted, collect_step}
 use Rattle.collection.specs.declared.Collection.{Collection}

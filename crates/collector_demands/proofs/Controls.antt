@@ -6,18 +6,18 @@
 --   no_first-piece_completes     it does not complete at the first piece of several
 --   no_invented_slots            the number that it answers with Waiting is that of the empty slots of the run
 -- Trusts: nothing.
-use Prim.Native.Nat.{ℕ, zero, suc, ◌+◌, ◌-◌, ◌≤◌, ◌<◌}
+use Prim.Native.Nat.{ℕ, suc, ◌-◌, ◌≤◌}
 use mathlib.Core.Path.{◌≡◌, refl, sym, ap, ◌∙◌}
 use mathlib.Core.Bool.{Bool, true, false, cond}
 use mathlib.Core.List.{List, [], ◌∷◌}
 use native.Mathlib.Omega.{arith}
-use borrow.Author.Tests.{eqb-true, eq-eqb, ne_eqb}
-use lib.ListN.{length, get_or}
+use borrow.Author.Tests.{eqb-true, ne_eqb}
+use lib.ListN.{length}
 use lib.Dec.{eqb}
 use Rattle.cuts.specs.Cuts.{Ruling, all_good, bad_at}
-use Rattle.collector.specs.Answers.{Said, refused, again, waiting, complete, dropped, said, lent_of}
+use Rattle.collector.specs.Answers.{Said, refused, again, waiting, complete, dropped, said}
 use Rattle.held.specs.Held.{well_made}
-use Rattle.body_tests.specs.Refusals.{number_of, slot_of, piece_of, body_refusal}
+use Rattle.body_tests.specs.Refusals.{number_of, slot_of, body_refusal}
 use Rattle.collector.specs.Step.{After, collect_step}
 use Rattle.collection.specs.declared.Collection.{Collection}
 use Rattle.collector.specs.declared.Outcome.{Outcome}
@@ -27,7 +27,7 @@ use Rattle.body_tests.proofs.Laws.{fits_of}
 use Rattle.collector_demands.specs.Runs.{is_full, accepts, lookup, continues, stored, repeated, run_from, run_of, missing, message, judged, Reply, reply, stored_reply, reply_from, reply_of}
 use Rattle.collector_demands.specs.Runs as runs
 use Rattle.collection.specs.Record.{is_strict}
-use Rattle.collector_demands.specs.Demand.{Lent, lent_after, told, is_complete}
+use Rattle.collector_demands.specs.Demand.{Lent, lent_after, told}
 use Rattle.collector_demands.proofs.Holds.{lookup-own}
 use Rattle.collector_demands.proofs.Missing.{missing_less, missing-all}
 use Rattle.collector_demands.proofs.Demands.{demand_2_nothing}

@@ -7,26 +7,26 @@
 --   none-held              an empty record has the slots of no run
 --   missing_is, message_is, lengths_is       what the record counts, joins and notes is what the run misses and has
 -- Trusts: nothing.
-use Prim.Native.Nat.{ℕ, zero, suc, ◌+◌, ◌*◌, ◌-◌, ◌≤◌, ◌<◌}
+use Prim.Native.Nat.{ℕ, zero, suc, ◌*◌, ◌-◌, ◌≤◌, ◌<◌}
 use mathlib.Core.Path.{◌≡◌, refl, sym, ap, ◌∙◌}
 use mathlib.Core.Bool.{Bool, true, false, cond, ◌&&◌}
-use mathlib.Core.List.{List, [], ◌∷◌, ◌++◌}
+use mathlib.Core.List.{List, [], ◌∷◌}
 use native.Mathlib.Omega.{arith}
 use borrow.Author.Tests.{eqb-true, eqb-false, eq-eqb, ne_eqb, lt-ltb, le-leb}
-use lib.ListN.{length, get_or, set, take, drop, replicate, length-set, length-drop, length-replicate, get_or-replicate}
+use lib.ListN.{length, get_or, length-set, length-drop, length-replicate, get_or-replicate}
 use lib.Seq.{get_or-set_same, get_or-set_other}
 use lib.Dec.{ltb, leb, eqb}
 use Rattle.wire.specs.Bytes.{pasted}
 use Rattle.wire.proofs.Laws.{clash, length-pasted}
 use Rattle.collection.specs.Record.{empty_collection}
-use Rattle.held.specs.Held.{is_filled, empty_slots, slot_sound, sound_to, well_made}
+use Rattle.held.specs.Held.{empty_slots, slot_sound, well_made}
 use Rattle.joining.specs.Pieces.{piece_at, joined}
 use Rattle.body_tests.specs.Refusals.{number_of, slot_of, piece_of, Fits}
 use Rattle.collector.specs.Step.{noted}
 use Rattle.collection.specs.declared.Collection.{Collection}
 use Rattle.held.proofs.Laws.{empty_slots_lt, sound_to-all}
 use Rattle.joining.proofs.Laws.{piece_at_same, piece_at_other}
-use Rattle.collector_demands.specs.Runs.{Slot, empty, full, is_full, bytes_of, lookup, missing, message, lengths_to, SlotHas}
+use Rattle.collector_demands.specs.Runs.{Slot, empty, full, is_full, lookup, missing, message, lengths_to, SlotHas}
 use Rattle.collector_demands.proofs.Missing.{lengths_to-at}
 
 -- a slot with what the run has; filled, it is one of the n

@@ -7,7 +7,7 @@
 --   whole_to            the first n pieces together               message-whole    what slots with these pieces have together
 --   lengths_to-at       the length of a piece                     judged_same      families that agree are judged alike
 -- Trusts: nothing.
-use Prim.Native.Nat.{ℕ, zero, suc, ◌+◌, ◌<◌, ◌≤◌}
+use Prim.Native.Nat.{ℕ, zero, suc, ◌<◌, ◌≤◌}
 use mathlib.Core.Path.{◌≡◌, refl, ◌∙◌}
 use mathlib.Core.Bool.{Bool, true}
 use mathlib.Core.List.{List, [], ◌++◌}

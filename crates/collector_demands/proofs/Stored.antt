@@ -6,7 +6,7 @@
 --   stored_tracks        so of a piece that goes on with a run or starts one: it waits, completes, or is dropped
 --   finished-held        what is finished and complete holds the record that it was given
 -- Trusts: nothing.
-use Prim.Native.Nat.{ℕ, ◌+◌, ◌*◌, ◌-◌, ◌≤◌}
+use Prim.Native.Nat.{ℕ, ◌*◌, ◌-◌, ◌≤◌}
 use mathlib.Core.Path.{◌≡◌, refl, sym, ap, ◌∙◌}
 use mathlib.Core.Bool.{Bool, true, false, cond, not}
 use mathlib.Core.List.{List, [], ◌∷◌, ◌++◌}
