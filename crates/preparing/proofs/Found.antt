@@ -5,7 +5,7 @@
 -- Neither of the two comes before the other, so they have the same priority and number.
 -- Trusts: nothing.
 use mathlib.Core.Path.{◌≡◌, refl, sym, ap, ◌∙◌}
-use mathlib.Core.Bool.{Bool, true, false, not, ◌&&◌}
+use mathlib.Core.Bool.{Bool, true, false, ◌&&◌}
 use mathlib.Core.List.Memᴰ
 use mathlib.Core.List.{List, [], Memᴰ}
 use mathlib.Core.Logic.{◌⊎◌, inl, inr}

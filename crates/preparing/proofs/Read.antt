@@ -7,17 +7,15 @@
 -- Trusts: nothing.
 use mathlib.Core.Path.{◌≡◌, refl, sym, ap, ◌∙◌}
 use mathlib.Core.Bool.{Bool, cond}
-use mathlib.Core.List.{List, [], ◌∷◌, ◌++◌, map}
-use Prim.Native.Nat.{ℕ, zero, suc, ◌+◌, ◌-◌, ◌≤◌, ◌<◌}
+use mathlib.Core.List.{List, [], ◌∷◌, map}
+use Prim.Native.Nat.{ℕ, suc, ◌+◌, ◌-◌, ◌≤◌, ◌<◌}
 use native.Mathlib.Nat.{zero-add}
 use native.Mathlib.Omega.{arith}
-use lib.Dec.{ltb}
 use lib.ListN.{length, get_or, replicate, length-map, get_or-append, get_or-map}
 use borrow.Author.Tests.{le-ltb}
 use Rattle.table.specs.Table.{limited_to}
 use Rattle.order.specs.Best.{first_place}
 use Rattle.matching.specs.declared.Entry.{Entry}
-use Rattle.tunnel_parts.specs.declared.Tunnel.{Tunnel}
 use Rattle.tunnel_parts.specs.Prepared.{entry_at, list_from, entries_of}
 use Rattle.preparing.specs.Preparing.{padded, tunnel_of}
 
