@@ -42,7 +42,7 @@ pub fn collect_lent<'b, 'j, 's>(
     join: &'j mut [u8],
     body: &'b [u8],
 ) -> Lent<'b, 'j>
-    ensures { record { after = record { answer = said result.outcome.answer; held = result.outcome.held; slots = slots.new; own = result.own.now; joined = result.joined.now; join = result.join.now }; own = result.own.ptr; joined = result.joined.ptr; join = result.join.ptr } ≡ lent_at held slots.old (part join.entry.ref_ptr join.old) (part body.entry.ref_ptr body.now) }
+    ensures { record { after = record { answer = said result.outcome.answer; held = result.outcome.held; slots = slots.new; own = result.own.now; joined = result.joined.now; join = result.join.now }; own = result.own.ref_ptr; joined = result.joined.ref_ptr; join = result.join.ref_ptr } ≡ lent_at held slots.old (part join.entry.ref_ptr join.old) (part body.entry.ref_ptr body.now) }
 {
     let outcome = collector::collect(held, slots, &mut *join, body);
     let own = own_part(outcome, body);
