@@ -49,12 +49,12 @@ collect_gives κs a x s h = h
 pub find_message_gives : (κs : Lfts 0) → Gives (λ x s. placed x) (find_message_contract.Post κs) (λ a. place_of (said a.0) a.1.0)
 find_message_gives κs a x s h = h
 
-pub own_part_gives : (κs : Lfts 1) → Gives {L = Part} (λ x s. part x.ptr x.now) (own_part_contract.Post κs)
-    (λ a. own_part (said a.0.answer) a.0.held.number (part a.1.0.ptr a.1.0.now))
+pub own_part_gives : (κs : Lfts 1) → Gives {L = Part} (λ x s. part x.ref_ptr x.now) (own_part_contract.Post κs)
+    (λ a. own_part (said a.0.answer) a.0.held.number (part a.1.0.ref_ptr a.1.0.now))
 own_part_gives κs a x s h = h
 
-pub joined_part_gives : (κs : Lfts 1) → Gives {L = Part} (λ x s. part x.ptr x.now) (joined_part_contract.Post κs)
-    (λ a. joined_part (said a.0.answer) a.0.held.number (part a.1.0.ptr a.1.0.now))
+pub joined_part_gives : (κs : Lfts 1) → Gives {L = Part} (λ x s. part x.ref_ptr x.now) (joined_part_contract.Post κs)
+    (λ a. joined_part (said a.0.answer) a.0.held.number (part a.1.0.ref_ptr a.1.0.now))
 joined_part_gives κs a x s h = h
 
 pub empty_collection_gives : (κs : Lfts 0) → Gives answer (empty_collection_contract.Post κs) (λ a. empty_collection a.0 0 0)
@@ -64,13 +64,13 @@ empty_collection_gives κs a x s h = h
 abbrev pub LentSeen : (κs : Lfts 3) → Res collect_lent.signature κs → AtExit collect_lent.ended κs → LentAt
 LentSeen κs x s = record {
   after = record { answer = said x.outcome.answer; held = x.outcome.held; slots = s.1.0.now; own = x.own.now; joined = x.joined.now; join = x.join.now };
-  own = x.own.ptr;
-  joined = x.joined.ptr;
-  join = x.join.ptr;
+  own = x.own.ref_ptr;
+  joined = x.joined.ref_ptr;
+  join = x.join.ref_ptr;
 }
 
 abbrev pub lent_for : (κs : Lfts 3) → Args collect_lent.signature κs → LentAt
-lent_for κs a = lent_at a.0 a.1.0.now (part a.1.1.0.ptr a.1.1.0.now) (part a.1.1.1.0.ptr a.1.1.1.0.now)
+lent_for κs a = lent_at a.0 a.1.0.now (part a.1.1.0.ref_ptr a.1.1.0.now) (part a.1.1.1.0.ref_ptr a.1.1.1.0.now)
 
 -- it is walked by hand, so its plain fact is written out, and `collect_lent_says` is that this is the contract
 abbrev pub CollectLent : (κs : Lfts 3) → Args collect_lent.signature κs → Res collect_lent.signature κs → AtExit collect_lent.ended κs → Type 0
@@ -87,10 +87,10 @@ collect_lent_gives κs a x s h = h
 
 -- so the message's part stands at the start of the buffer that is lent back, and nowhere else
 pub collect_lent-front : (κs : Lfts 3) (a : Args collect_lent.signature κs) (x : Res collect_lent.signature κs) (s : AtExit collect_lent.ended κs)
-    → CollectLent κs a x s → (x.joined.ptr ≡ x.join.ptr) × (take (length x.joined.now) x.join.now ≡ x.joined.now)
+    → CollectLent κs a x s → (x.joined.ref_ptr ≡ x.join.ref_ptr) × (take (length x.joined.now) x.join.now ≡ x.joined.now)
 collect_lent-front κs a x s h =
     subst⁻¹ (λ (r : LentAt). (r.joined ≡ r.join) × (take (length r.after.joined) r.after.join ≡ r.after.joined)) h
-    (lent_at_front a.0 a.1.0.now (part a.1.1.0.ptr a.1.1.0.now) (part a.1.1.1.0.ptr a.1.1.1.0.now))
+    (lent_at_front a.0 a.1.0.now (part a.1.1.0.ref_ptr a.1.1.0.now) (part a.1.1.1.0.ref_ptr a.1.1.1.0.now))
 
 -- ---- reading a table: the verdict and the table
 

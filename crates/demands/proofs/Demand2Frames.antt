@@ -76,8 +76,8 @@ judge_frame_gives κs a x s h = judged_only _ _ h
 pub payload_range_gives : (κs : Lfts 0) → Gives answer (payload_range_contract.Post κs) (λ a. payload_range a.0 a.1.0)
 payload_range_gives κs a x s h = h
 
-pub payload_gives : (κs : Lfts 1) → Gives {L = Part} (λ x s. part x.ptr x.now) (payload_contract.Post κs)
-    (λ a. part_over (payload_range a.0 (length a.1.0.now)) a.1.0.ptr a.1.0.now)
+pub payload_gives : (κs : Lfts 1) → Gives {L = Part} (λ x s. part x.ref_ptr x.now) (payload_contract.Post κs)
+    (λ a. part_over (payload_range a.0 (length a.1.0.now)) a.1.0.ref_ptr a.1.0.now)
 payload_gives κs a x s h = h
 
 pub prepare_tunnel_gives : (κs : Lfts 0) → Gives answer (prepare_tunnel_contract.Post κs) (λ a. prepared_tunnel a.0 a.1.0 a.1.1.0)

@@ -53,10 +53,10 @@ collect_one κs = only (demand2.collect_gives κs)
 pub find_message_one : (κs : Lfts 0) → One (λ x s. placed x) (find_message_contract.Post κs)
 find_message_one κs = only (demand2.find_message_gives κs)
 
-pub own_part_one : (κs : Lfts 1) → One {L = Part} (λ x s. part x.ptr x.now) (own_part_contract.Post κs)
+pub own_part_one : (κs : Lfts 1) → One {L = Part} (λ x s. part x.ref_ptr x.now) (own_part_contract.Post κs)
 own_part_one κs = only (demand2.own_part_gives κs)
 
-pub joined_part_one : (κs : Lfts 1) → One {L = Part} (λ x s. part x.ptr x.now) (joined_part_contract.Post κs)
+pub joined_part_one : (κs : Lfts 1) → One {L = Part} (λ x s. part x.ref_ptr x.now) (joined_part_contract.Post κs)
 joined_part_one κs = only (demand2.joined_part_gives κs)
 
 pub collect_lent_one : (κs : Lfts 3) → One (demand2.LentSeen κs) (demand2.CollectLent κs)
@@ -91,7 +91,7 @@ judge_frame_one κs = only (frames.judge_frame_gives κs)
 pub payload_range_one : (κs : Lfts 0) → One answer (payload_range_contract.Post κs)
 payload_range_one κs = only (frames.payload_range_gives κs)
 
-pub payload_one : (κs : Lfts 1) → One {L = Part} (λ x s. part x.ptr x.now) (payload_contract.Post κs)
+pub payload_one : (κs : Lfts 1) → One {L = Part} (λ x s. part x.ref_ptr x.now) (payload_contract.Post κs)
 payload_one κs = only (frames.payload_gives κs)
 
 -- ---- preparing, prepared, tunnel_parts
