@@ -6,13 +6,13 @@
 --   read_table-verdict     the verdict does not depend on the given table
 --   read_table-table       nor does an accepted table
 -- Trusts: nothing.
-use Prim.Native.Nat.{ℕ, ◌+◌, ◌-◌, ◌≤◌, ◌<◌}
-use mathlib.Core.Path.{◌≡◌, refl, sym, ap, ◌∙◌}
+use Prim.Native.Nat.{ℕ, ◌-◌, ◌≤◌, ◌<◌}
+use mathlib.Core.Path.{◌≡◌, refl, sym, ◌∙◌}
 use mathlib.Core.Bool.{Bool, true, false, cond, not}
 use mathlib.Core.List.{List, [], ◌∷◌}
 use mathlib.Core.Logic.{◌⊎◌, inl, inr}
 use native.Mathlib.Omega.{arith}
-use borrow.Author.Tests.{eqb-false, not-true, ltb-false}
+use borrow.Author.Tests.{eqb-false, ltb-false}
 use lib.ListN.{length}
 use lib.Dec.{eqb, ltb}
 use Rattle.table.specs.Table.{rules_of, empty_table}
@@ -29,7 +29,7 @@ use Rattle.named.specs.declared.Lone.{Lone}
 use Rattle.named.specs.declared.Lone.TheVariants.{Answered, At}
 use Rattle.named.proofs.Laws.{Within, from_within, lone_number-answered, lone_number_within}
 use Rattle.reader.specs.Take.{with_element, table_of, is_taken}
-use Rattle.reader.specs.Read.{number_of, offset_of, refusal, read_lone, read_row, read_table}
+use Rattle.reader.specs.Read.{refusal, read_lone, read_row, read_table}
 use Rattle.reader.specs.declared.Reading.{Reading}
 use Rattle.reader.specs.declared.Verdict.{Verdict}
 use Rattle.reader.specs.declared.Verdict.TheVariants.{Accepted, Refused as Refuses}

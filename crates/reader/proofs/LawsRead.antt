@@ -6,13 +6,13 @@
 --   is_taken_rule, -classifier, -configuration, -other      whether the number at `at` is among those kept
 --   with_element-rule, -classifier, -configuration, -other    what the element leaves
 -- Trusts: nothing.
-use Prim.Native.Nat.{ℕ, ◌+◌, ◌-◌, ◌≤◌, ◌<◌, min}
-use mathlib.Core.Path.{◌≡◌, refl, sym, ap, ◌∙◌}
-use mathlib.Core.Bool.{Bool, true, false, cond, not}
+use Prim.Native.Nat.{ℕ, ◌+◌, ◌-◌, ◌≤◌, ◌<◌}
+use mathlib.Core.Path.{◌≡◌, refl}
+use mathlib.Core.Bool.{true, false}
 use mathlib.Core.List.{List}
 use native.Mathlib.Omega.{arith}
-use borrow.Author.Tests.{eq-eqb, ne_eqb, lt-ltb, le-ltb}
-use lib.ListN.{length, set}
+use borrow.Author.Tests.{eq-eqb, ne_eqb}
+use lib.ListN.{length}
 use Rattle.elements.specs.Elements.{head_at}
 use Rattle.elements.specs.declared.Head.{Head}
 use Rattle.elements.specs.declared.Head.TheVariants.{End, Refused, Value}
@@ -20,7 +20,7 @@ use Rattle.elements.proofs.Laws.{head_at-end, head_at_ends, head_at_starts, head
 use Rattle.table.specs.declared.Rule.{Rule}
 use Rattle.table.specs.declared.Classifier.{Classifier}
 use Rattle.table.specs.declared.Table.{Table}
-use Rattle.children.specs.Rows.{Row, row_in, type_at}
+use Rattle.children.specs.Rows.{row_in, type_at}
 use Rattle.rules.specs.Rules.{rule_at}
 use Rattle.classifiers.specs.Classifiers.{classifier_at}
 use Rattle.configurations.specs.Configurations.{configuration_at}

@@ -6,7 +6,7 @@
 --   reads-refused, reads-last    a refusal of 6 to 14; what 15 leaves
 --   table-accepted, table-refused   the reading with the given table
 -- Trusts: nothing.
-use Prim.Native.Nat.{ℕ, ◌-◌, ◌≤◌, ◌<◌}
+use Prim.Native.Nat.{ℕ, ◌≤◌, ◌<◌}
 use mathlib.Core.Path.{◌≡◌, refl, sym, ◌∙◌}
 use mathlib.Core.Bool.{Bool, true, false}
 use mathlib.Core.List.{List}

@@ -14,7 +14,6 @@ use Rattle.children.specs.Rows.{Row, done, bad, item, row_in}
 use Rattle.rows.specs.Tests.{empty_tally}
 use Rattle.rows.specs.Rows.{tested_at}
 use Rattle.rows.specs.declared.Tally.{Tally}
-use Rattle.rows.specs.declared.Tested.{Tested}
 use Rattle.named.specs.Named.{lone_number}
 use Rattle.named.specs.declared.Lone.{Lone}
 use Rattle.named.specs.declared.Lone.TheVariants.{Answered, At}

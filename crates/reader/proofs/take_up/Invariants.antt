@@ -2,14 +2,9 @@
 -- message is reading the whole of it, and that the two lists hold the numbers in the table, or that the refusal is the message's. What
 -- is left of the message falls.
 -- Trusts: nothing.
-use borrow.Author.Rules.{rules}
-use native.Mathlib.Omega.{arith}
 use Rattle.configurations.specs.Configurations.{configuration_at}
 use Rattle.reader.specs.Take.{with_configuration}
-use Rattle.reader.proofs.LawsTaking.{Taking, left, taking_empty, takes_all}
-use Rattle.reader.proofs.LawsTurn.{Turn, turns, left_less}
-use Rattle.reader.proofs.LawsArms.{knows, RuleArm, rule_less, rule-put, rule_left, ClassifierArm, classifier_less, classifier-put, classifier_left}
-use Rattle.reader.proofs.LawsArms.{taking_configuration, taking_other}
+use Rattle.reader.proofs.LawsTaking.{Taking, left}
 use Rattle.reader.proofs.take_up.Given as goal
 
 abbrev pub invariant-loop-ruleids : goal.invariant-loop-ruleids
