@@ -1,14 +1,9 @@
 -- `writing_configurations::put_channels` writes an element for each channel. After i turns those of the first i stand there (`Turned`); what is left
 -- of the channels falls.
 -- Trusts: nothing.
-use Prim.Native.Nat.{◌+◌, ◌-◌, ◌≤◌}
-use mathlib.Core.Path.{refl}
-use native.Mathlib.Omega.{arith}
-use borrow.Author.Rules.{rules}
-use lib.ListN.{length}
-use Rattle.texts.proofs.Turns.{Turned, turned_none, turned_length, turned_room, turned_more, turned_all}
+use Rattle.std.proofs.Common.{◌-◌, length}
+use Rattle.texts.proofs.Turns.{Turned}
 use Rattle.writing_elements.specs.Encode.{channel_bytes}
-use Rattle.writing_configurations.proofs.Children.{channel-lined}
 use Rattle.writing_configurations.proofs.put_channels.Given as goal
 
 abbrev pub invariant-loop-i : goal.invariant-loop-i
