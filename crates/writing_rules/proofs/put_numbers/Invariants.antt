@@ -1,16 +1,10 @@
 -- `writing_rules::put_numbers` writes the classifier numbers of a rule. After i turns those of the first i stand there (`Turned`); what is left
 -- of the count falls.
 -- Trusts: nothing.
-use Prim.Native.Nat.{◌-◌, ◌<◌}
-use mathlib.Core.Path.{◌≡◌, sym, ◌∙◌}
-use native.Mathlib.Omega.{arith}
-use lib.ListN.{length}
-use borrow.Author.Rules.{rules}
+use Rattle.std.proofs.Common.{◌-◌}
 use Rattle.table.specs.Table.{numbers_of}
-use Rattle.table.proofs.Laws.{limited_to_le, length-numbers_of, length-numbers_of_le, numbers_of-at, length_mapped}
-use Rattle.texts.proofs.Turns.{Turned, turned_none, turned_length, turned_room, turned_more, turned_all}
+use Rattle.texts.proofs.Turns.{Turned}
 use Rattle.writing_elements.specs.Encode.{number_bytes}
-use Rattle.writing_rules.proofs.Numbers.{named→lined}
 use Rattle.writing_rules.proofs.put_numbers.Given as goal
 
 abbrev pub invariant-loop-i : goal.invariant-loop-i
