@@ -5,7 +5,7 @@
 --   receive-taken      the step, from the collector's and what is taken up after it
 -- Trusts: nothing.
 use Prim.Native.Nat.{ℕ}
-use mathlib.Core.Path.{◌≡◌, refl, sym, ap, ◌∙◌}
+use mathlib.Core.Path.{◌≡◌, refl, ap, ◌∙◌}
 use mathlib.Core.List.{List}
 use Rattle.table.specs.declared.Table.{Table}
 use Rattle.collection.specs.declared.Collection.{Collection}
@@ -13,7 +13,7 @@ use Rattle.collector.specs.Answers.{Said, complete, lent_of}
 use Rattle.collector.specs.Step.{After, collect_step}
 use Rattle.reader.specs.Read.{read_table}
 use Rattle.reader.specs.declared.Reading.{Reading}
-use Rattle.receiver.specs.Receive.{Told, reported, Taken, taken, Had, receive_step}
+use Rattle.receiver.specs.Receive.{Told, reported, Taken, taken, receive_step}
 
 pub taken-complete : (a : Said) (n : ℕ) (t : Table) (message : List ℕ) {r : Told} {q : Reading} → a ≡ complete n → r ≡ reported q.verdict → q ≡ read_table t message
     → record { report = r; table = q.table } ≡ taken a t message
