@@ -10,35 +10,16 @@ use mathlib.Core.Path.{◌≡◌, refl, ap, subst}
 use Prim.Native.Nat.{ℕ, zero, suc}
 use mathlib.Core.List.{List, [], ◌∷◌, ◌++◌}
 use seplogic.Ra.Ura.{Ura}
-use seplogic.Ra.TreeShare.{full_share}
+use base.Fraction.{full_share}
 use lib.Dec.{T}
 use mir.Syntax.{Ty, Local, local, Fn}
 use mir.Val.{Val, WT, has_ty}
-use base.Logic.{SProp, ent, sep, emp, via, comm∗, assoc∗, assoc', mono_l, mono_r, fst∗, snd∗, emp∗, wand, wand_i, all, all_i, guard_i}
+use base.Logic.{SProp, ent, sep, emp, via, comm∗, assoc∗, mono_l, mono_r, snd∗, emp∗, wand, wand_i, all_i}
 use base.Fml.{fat, froom, fdies}
-use prog.Wp.{Heap, Calls, Loops, write, alloc, pass, params, release, Wp, at_return, WpFn}
+use prog.Wp.{Calls, Loops, write, alloc, pass, params, release, Wp, at_return, WpFn}
 use types.Logic.{Logic}
 use types.Kit.{Item, ‵, raw, ◌⊛◌, ⋆, push, pop, ++⊢, ⊢++, Goal, prop, runs, frees as freeing, at_ret, aim, Seq, Step, step, ◌$◌, ◌∵◌, !, qed, by, move, use1, use2, split, join, frame, check, assume, done}
-
--- where the locals lie
-abbrev Places : Type 0
-Places = List (Ty × ℕ)
-
--- what each place holds: the first ones these values, the others nothing yet
-abbrev pub stored : {M : Type 1} {𝓤 : Ura M} → Places → List Val → List (Item 𝓤)
-stored [] vs = []
-stored (e ∷ E) [] = ‵ (froom e.0 e.1 zero) ∷ stored E []
-stored (e ∷ E) (v ∷ vs) = ‵ (fat full_share e.0 e.1 zero v) ∷ stored E vs
-
--- the right to end them
-abbrev pub dying : {M : Type 1} (𝓤 : Ura M) (H : Heap 𝓤) → Places → SProp 𝓤
-dying 𝓤 H [] = emp 𝓤
-dying 𝓤 H (e ∷ E) = sep 𝓤 (H.dies e.0 e.1) (dying 𝓤 H E)
-
--- local 0 is the result, and the arguments are stored in those after it
-abbrev pub started : {M : Type 1} (𝓤 : Ura M) (H : Heap 𝓤) → Places → List Val → List (Item 𝓤)
-started 𝓤 H [] vs = []
-started 𝓤 H (e ∷ E) vs = ‵ (froom e.0 e.1 zero) ∷ (stored E vs ++ (raw (dying 𝓤 H (e ∷ E)) ∷ []))
+use Rattle.walks.proofs.Places.{Places, stored, dying, started}
 
 abbrev pub Typed : Places → List Val → Type 0
 Typed [] [] = Unit {0}

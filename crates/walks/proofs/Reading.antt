@@ -12,7 +12,7 @@ use Prim.Native.Nat.{ℕ, zero, ◌+◌}
 use mathlib.Core.Option.{some}
 use mathlib.Core.List.{List, [], ◌∷◌}
 use seplogic.Ra.Ura.{Ura}
-use seplogic.Ra.TreeShare.{full_share}
+use base.Fraction.{full_share}
 use lib.Dec.{T}
 use mir.Syntax.{Sym, Ty, Tys, ty_struct, place, deref, field, copy, rv_opd, Rv as RValue, Body, seq, assign}
 use mir.Raw.{raw as raw_ty}

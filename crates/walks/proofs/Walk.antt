@@ -1,4 +1,4 @@
--- Walk: the names of the program logic that a walk of a thin function needs (guides/PROOFS.md of the kit), passed on in one place.
+-- Walk: the names of the program logic that a walk of a thin function needs (logic/PROOFS.md of the kit), passed on in one place.
 --
 -- A walk goes through the code of a function that takes a record behind a reference: the record is copied whole out of the borrow, one
 -- function is called, and, behind a `&mut`, a record of its result is stored whole. The walks of crate dsg have that shape; they
@@ -14,7 +14,7 @@ pub use mathlib.Core.Bool.{Bool}
 pub use Prim.Native.Nat.{ℕ}
 pub use mathlib.Core.List.{[], ◌∷◌, List}
 pub use seplogic.Ra.Ura.{Ura}
-pub use seplogic.Ra.TreeShare.{full_share}
+pub use base.Fraction.{full_share}
 pub use mir.Syntax.{named, w8, w16, w32, w64}
 pub use mir.Val.{Val, vint, vptr}
 pub use base.Logic.{SProp, ent, emp, via, fst∗, id⊢}
@@ -24,9 +24,9 @@ pub use prog.Routine.{Routine}
 pub use prog.Wp.{Heap, Calls, Loops, WpFn, Tables}
 pub use ghost.Atoms.{Atoms}
 pub use contract.Monad.{Fun, fact}
-pub use contract.Running.{given_of, tables}
+pub use contract.Running.{tables}
 unfoldable pub use contract.Running.{tables_of}
-pub use types.Kit.{Given, Item, ‵, raw, ◌⊛◌, ⋆, some, later, ◌$◌, ◌∵◌, !, qed, by, move, keep, drop, use0, use1, split, join, pick, rewrite, fsplit, fsplit3, fjoin, fjoin3, feq_i, feq_l, suffices, frame, await, done}
+pub use types.Kit.{Item, ‵, raw, ◌⊛◌, ⋆, some, later, ◌$◌, ◌∵◌, !, qed, by, move, keep, drop, use0, use1, split, join, pick, rewrite, fsplit, fsplit3, fjoin, fjoin3, feq_i, feq_l, suffices, frame, await, done}
 pub use types.Run.{look, store_raw, init, stop, hop, fld, from, load, addr, of_opd, and_then, no_more, assigns, land, returns}
 pub use types.Part.{agg, whole, sub, look_in}
 pub use types.SemTy.{Body}
