@@ -1,12 +1,10 @@
 -- `writing_check::channels_fit` goes over all places of the channels, and keeps Passed.
 -- Trusts: nothing.
-use borrow.Author.Rules.{rules}
 use Prim.Native.Nat.{◌-◌}
 use mathlib.Core.Bool.{not}
 use Rattle.element_tests.specs.Tests.{no_channel}
 use Rattle.writing_entries.specs.Entries.{is_zero}
-use Rattle.writing_entries.proofs.Places.{Passed, passed_none, passed-end}
-use Rattle.writing_check.proofs.Laws.{passed-channel}
+use Rattle.writing_entries.proofs.Places.{Passed}
 use Rattle.writing_check.proofs.channels_fit.Given as goal
 
 abbrev pub invariant-loop-i : goal.invariant-loop-i

@@ -1,0 +1,24 @@
+-- `writing_check::is_producible` gives producible: false where a list or a timer fails, else what test 15 says.
+-- Trusts: nothing.
+use borrow.Author.Rules.{rules}
+use mathlib.Core.Path.{ap}
+use mathlib.Core.Bool.{not}
+use Rattle.table.proofs.Laws.{length_mapped}
+use Rattle.writing_check.proofs.Laws.{answers_all, answers_not, producible_not, producible_as}
+use Rattle.writing_check.proofs.is_producible.Goals as goal
+
+-- a list or a timer fails
+pub returns-then-not-fit : goal.returns-then-not-fit
+returns-then-not-fit c =
+    producible_not c.args.table (search (rules, length_mapped)) (search (rules, length_mapped)) (search (rules, length_mapped)) c.channels_fit.ensures c.classifiers_fit.ensures
+    c.rules_fit.ensures (ap not c.if-not-fit.true)
+
+pub returns-in-Answered : goal.returns-in-Answered
+returns-in-Answered c =
+    producible_as c.args.table (search (rules, length_mapped)) (search (rules, length_mapped)) (search (rules, length_mapped)) c.channels_fit.ensures c.classifiers_fit.ensures
+    c.rules_fit.ensures (ap not c.if-not-fit.false) (answers_all _ _ c.lone_number.ensures c.in-Answered.is)
+
+pub returns-in-At : goal.returns-in-At
+returns-in-At c =
+    producible_as c.args.table (search (rules, length_mapped)) (search (rules, length_mapped)) (search (rules, length_mapped)) c.channels_fit.ensures c.classifiers_fit.ensures
+    c.rules_fit.ensures (ap not c.if-not-fit.false) (answers_not _ _ c.lone_number.ensures c.in-At.is)
