@@ -14,6 +14,6 @@ pub returns : goal.returns
 returns c =
     let a = c.args in
     let whole : take (length a.source.now) c.copy_fitting-2.new.target ≡ a.source.now =
-      rw c.copy_fitting-2.ensures (held_whole (replicate 2048 0) a.source.now (omega (arith, length-replicate {A = ℕ} 2048 0)))
+    rw c.copy_fitting-2.ensures (held_whole (replicate 2048 0) a.source.now (omega (arith, length-replicate {A = ℕ} 2048 0)))
     in
     c.copy_fitting-3.ensures ∙ ap (λ (l : List ℕ). pasted a.target.now a.at l) whole
