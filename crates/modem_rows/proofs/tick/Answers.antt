@@ -13,10 +13,8 @@ returns-then-m-silent c = rw (c.go-then-m-silent.ensures, ← c.is_four.ensures,
 
 pub returns-then-m : goal.returns-then-m
 unfolding tick_event rest_row wake_row retry_row
-returns-then-m c = let c2 = c in rw
-    (c.go-then-m.ensures, ← c2.is_four.ensures, c2.if-is_four-silent.false, c2.if-m-silent.false, c.if-m.true)
+returns-then-m c = rw (c.go-then-m.ensures, ← c.is_four.ensures, c.if-is_four-silent.false, c.if-m-silent.false, c.if-m.true)
 
 pub returns : goal.returns
 unfolding tick_event rest_row wake_row retry_row
-returns c = let c2 = c in rw
-    (c.keep.ensures, ← c2.is_four.ensures, c2.if-is_four-silent.false, c2.if-m-silent.false, c.if-m.false)
+returns c = rw (c.keep.ensures, ← c.is_four.ensures, c.if-is_four-silent.false, c.if-m-silent.false, c.if-m.false)
