@@ -12,7 +12,7 @@ use mathlib.Core.Logic.{⊎_elim}
 use native.Mathlib.Omega.{arith}
 use lib.ListN.{length}
 use Rattle.table.specs.declared.Table.{Table}
-use Rattle.collector.specs.Answers.{complete, lent_of}
+use Rattle.collector.specs.Answers.{complete}
 use Rattle.collector_demands.specs.Runs.{Reply, reply}
 use Rattle.collector_demands.specs.Demand.{Lent, called, told, reply_to, is_complete, completions, Cutting, body_of, Arrived, none, other, piece, Came, Passes, Apart, Demand3}
 use Rattle.collection.specs.Record.{is_strict}
@@ -20,7 +20,7 @@ use Rattle.collector_demands.proofs.Demands.{demand_3}
 use Rattle.collector_demands.proofs.Last.{came_or_not}
 use Rattle.reader.specs.Read.{read_table}
 use Rattle.receiver.specs.Receive.{reported, Taken, taken, receive_step}
-use Rattle.receiver_demands.specs.EndToEnd.{Kept, stepped, kept_after, readings, ReadOnce}
+use Rattle.receiver_demands.specs.EndToEnd.{Kept, stepped, kept_after, ReadOnce}
 use Rattle.receiver_demands.proofs.Follows.{lent_of_kept, lent-after, readings_are, table-passed, table-silent}
 
 -- completion was reported before, and so is not reported now

@@ -6,18 +6,17 @@
 --   readings_are    so there are as many readings as completions
 --   table-silent    with none, the table is as it was lent first
 -- Trusts: nothing.
-use Prim.Native.Nat.{ℕ, ◌+◌}
-use mathlib.Core.Path.{◌≡◌, refl, sym, ap, ◌∙◌}
+use Prim.Native.Nat.{ℕ}
+use mathlib.Core.Path.{◌≡◌, refl, ap, ◌∙◌}
 use mathlib.Core.List.{List, [], ◌∷◌}
 use native.Mathlib.Omega.{arith}
 use Rattle.table.specs.declared.Table.{Table}
-use Rattle.collector.specs.Answers.{Said, refused, again, waiting, complete, dropped, lent_of}
-use Rattle.collector.specs.Step.{After, collect_step}
+use Rattle.collector.specs.Answers.{Said, refused, again, waiting, complete, dropped}
 use Rattle.collector_demands.specs.Demand.{Lent, called, lent_after, reply_to, is_complete, completions}
 use Rattle.reader.specs.declared.Verdict.{Verdict}
 use Rattle.reader.specs.declared.Verdict.TheVariants.{Accepted, Refused}
 use Rattle.reader.specs.Read.{read_table}
-use Rattle.receiver.specs.Receive.{Told, reported, Taken, taken, Had, receive_step}
+use Rattle.receiver.specs.Receive.{reported, taken, receive_step}
 use Rattle.receiver_demands.specs.EndToEnd.{Kept, stepped, kept_after, is_read, readings}
 
 -- what the collector is lent of it
