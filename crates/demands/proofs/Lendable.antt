@@ -33,7 +33,7 @@ Lendable r vs = Is record_type.the_row r vs
 pub lendable_sized : (r : Collection) (vs : List Val) → Lendable r vs → Sized r
 lendable_sized r vs is =
     let fields = LL.owed record_type.the_type record-laws.the_laws r vs is in
-    record { flags = sym (length-map r.filled _) ∙ fields.1.1.0.1.0.1; lens = sym (length-map r.lengths _) ∙ fields.1.1.1.0.1.0.1 }
+    record { flags = fields.1.1.0.1.0.1; lens = fields.1.1.1.0.1.0.1 }
 
 pub demand_2_lent : (s : Lent) (vs : List Val) → Lendable s.held vs → 24000 ≤ length s.slots → 24000 ≤ length s.join → (h : List (List ℕ)) (b : List ℕ)
     → (reply_to s h b ≡ reply_from (is_strict s.held) (stands_for s.held s.slots) h b)
