@@ -1,5 +1,6 @@
 -- What is written, collected in any order, is read as the same table (document 02, Req 01, with demand 3).
 --
+--   joined_is            the collector's word for pieces one behind the other and the writer's say the same
 --   pieces_five          a table makes at most five pieces
 --   written_cutting      the pieces are a cutting of the message in the sense of demand 3: 1 to 16 of at most 1,497 bytes
 --   written_passes       no piece ends where it may not (document 02, Req 04): a strict collection never answers 21
@@ -8,7 +9,7 @@
 -- Trusts: nothing.
 use Prim.Native.Nat.{ℕ, zero, suc, ◌≤◌, ◌<◌}
 use mathlib.Core.Path.{◌≡◌, refl, ap, ◌∙◌}
-use mathlib.Core.List.{List}
+use mathlib.Core.List.{List, [], ◌∷◌, ◌++◌}
 use native.Mathlib.Omega.{arith}
 use lib.ListN.{length, length-append}
 use Rattle.wire.specs.Bytes.{concat}
@@ -21,11 +22,16 @@ use Rattle.writing_elements.proofs.Messages.{length-message_of}
 use Rattle.writing_message.proofs.Sized.{elements_of_sized}
 use Rattle.writing_laws.specs.Claims.{Producible}
 use Rattle.writing_laws.proofs.Back.{read_table_back}
-use Rattle.collector_demands.specs.Demand.{Cutting, Arrived, Came, Passes, Apart}
+use Rattle.collector_demands.specs.Demand.{concat as joined, Cutting, Arrived, Came, Passes, Apart}
 use Rattle.collector_demands.proofs.Between.{between_good}
 use Rattle.receiver_demands.specs.EndToEnd.{Kept, kept_after, readings}
 use Rattle.receiver_demands.proofs.Demands.{demand_3_read}
 use Rattle.writing_demands.proofs.Wholes.{pieces_whole}
+
+joined_is : (ps : List (List ℕ)) → joined ps ≡ concat ps
+unfolding joined concat
+joined_is [] = refl
+joined_is (p ∷ ps) = ap (λ (l : List ℕ). p ++ l) (joined_is ps)
 
 -- no byte, no element, one piece
 nothing : {es : List (List ℕ)} → ElementSized es → length (concat es) ≡ 0 → length (pieces_of es) ≡ 1
@@ -44,7 +50,7 @@ pieces_five t = on (length (message_of t)) refl
 pub written_cutting : (t : Table) → Cutting (message_of t) (pieces_of (elements_of t))
 unfolding message_of
 written_cutting t =
-    record { whole = concat_pieces (elements_of t); some = pieces_some (elements_of t); few = omega (arith, pieces_five t); short = pieces_short (elements_of_sized t) }
+    record { whole = joined_is (pieces_of (elements_of t)) ∙ concat_pieces (elements_of t); some = pieces_some (elements_of t); few = omega (arith, pieces_five t); short = pieces_short (elements_of_sized t) }
 
 pub written_passes : (t : Table) → Passes (message_of t) (pieces_of (elements_of t))
 written_passes t = between_good (message_of t) (pieces_of (elements_of t)) (written_cutting t).whole (pieces_whole t)

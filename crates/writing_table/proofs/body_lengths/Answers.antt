@@ -1,15 +1,13 @@
 -- `writing_table::body_lengths` gives the lengths with their heads. The loop's invariant: the first k places hold those of the first k pieces,
 -- the others 0; what is left of the pieces falls.
 -- Trusts: nothing.
-use Prim.Native.Nat.{ℕ, ◌+◌, ◌-◌, ◌≤◌}
+use Prim.Native.Nat.{◌+◌}
 use mathlib.Core.Path.{◌≡◌, refl, ap, ◌∙◌}
-use mathlib.Core.List.{map}
 use native.Mathlib.Omega.{arith}
-use native.Mathlib.Nat.{le_antisymm}
 use borrow.Author.Rules.{rules}
-use lib.ListN.{length, take, set, get_or}
+use lib.ListN.{length, set, get_or}
 use Rattle.table.specs.Table.{padded}
-use Rattle.writing_table.proofs.Parts.{with_head, lengths-more}
+use Rattle.writing_table.proofs.Parts.{lengths-more}
 use Rattle.writing_table.proofs.body_lengths.Goals as goal
 
 pub loop-k-init : goal.loop-k-init

@@ -1,15 +1,12 @@
 -- `writing_table::body_lengths` gives the lengths with their heads. The loop's invariant: the first k places hold those of the first k pieces,
 -- the others 0; what is left of the pieces falls.
 -- Trusts: nothing.
-use Prim.Native.Nat.{ℕ, ◌+◌, ◌-◌, ◌≤◌}
-use mathlib.Core.Path.{◌≡◌, refl, ap, ◌∙◌}
+use Prim.Native.Nat.{◌-◌, ◌≤◌}
+use mathlib.Core.Path.{◌≡◌}
 use mathlib.Core.List.{map}
-use native.Mathlib.Omega.{arith}
-use native.Mathlib.Nat.{le_antisymm}
-use borrow.Author.Rules.{rules}
-use lib.ListN.{length, take, set, get_or}
+use lib.ListN.{take}
 use Rattle.table.specs.Table.{padded}
-use Rattle.writing_table.proofs.Parts.{with_head, lengths-more}
+use Rattle.writing_table.proofs.Parts.{with_head}
 use Rattle.writing_table.proofs.body_lengths.Given as goal
 
 abbrev pub invariant-loop-k : goal.invariant-loop-k

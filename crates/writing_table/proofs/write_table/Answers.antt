@@ -1,17 +1,11 @@
 -- `writing_table::write_table` gives `writing`: each return cites the law of its answer. When the message is written, the record of its pieces has
 -- the need; only then the bodies are laid.
 -- Trusts: nothing.
-use Prim.Native.Nat.{ℕ, ◌≤◌}
+use Prim.Native.Nat.{ℕ}
 use mathlib.Core.Path.{◌≡◌, sym, ap, ◌∙◌}
-use mathlib.Core.Bool.{true}
-use mathlib.Core.List.{map}
 use native.Mathlib.Omega.{arith}
-use borrow.Author.Rules.{rules}
 use lib.ListN.{length, replicate, length-replicate}
 use lib.Seq.{length-take-le}
-use Rattle.writing_elements.specs.Encode.{elements_of}
-use Rattle.writing_message.specs.Message.{no_cut, cut_all}
-use Rattle.writing_check.specs.Producible.{producible}
 use Rattle.writing_table.specs.declared.Written.{Written}
 use Rattle.writing_table.proofs.Laws.{writing_cannot, writing-short, writing-bodies}
 use Rattle.writing_table.proofs.Parts.{closed_few, need_is, pieces_in_lem, bodies_are, cut_is, message_in_lem, bytes_are}
