@@ -14,57 +14,31 @@ use Rattle.collector.specs.Duties.{begun, stored_step}
 use Rattle.collector.proofs.LawsStep.{step_refused, step_again, step_stored, from_number, from_short}
 use Rattle.collector.proofs.collect.Goals as goal
 
+-- a body that no test refuses has its three bytes
+passed : (n slots join : ℕ) (body : List ℕ) → n ≡ refusal_of slots join body → n ≡ 0 → Fits body
+passed n slots join body e z = fits_of _ (refusal_of-room _ _ _ (sym e ∙ z)).2
+
 -- ---- the three ways out
 pub returns-then-refusal-ne0 : goal.returns-then-refusal-ne0
 returns-then-refusal-ne0 c = step_refused _ _ _ _ _ c.refuse-refusal.ensures c.if-refusal-ne0.true
 
 pub bounds-body-0 : goal.bounds-body-0
-bounds-body-0 c =
-    let a = c.args in
-    let b = a.body.now in
-    let ok : refusal_of (length a.slots.now) (length a.join.now) b ≡ 0 = sym c.refuse-refusal.ensures ∙ c.if-refusal-ne0.false in
-    let fits : Fits b = fits_of _ (refusal_of-room _ _ _ ok).2 in
-    omega (arith, fits)
+bounds-body-0 c = omega (arith, passed _ _ _ _ c.refuse-refusal.ensures c.if-refusal-ne0.false)
 
 pub bounds-body-1 : goal.bounds-body-1
-bounds-body-1 c =
-    let a = c.args in
-    let b = a.body.now in
-    let ok : refusal_of (length a.slots.now) (length a.join.now) b ≡ 0 = sym c.refuse-refusal.ensures ∙ c.if-refusal-ne0.false in
-    let fits : Fits b = fits_of _ (refusal_of-room _ _ _ ok).2 in
-    omega (arith, fits)
+bounds-body-1 c = omega (arith, passed _ _ _ _ c.refuse-refusal.ensures c.if-refusal-ne0.false)
 
 pub bounds-body-2 : goal.bounds-body-2
-bounds-body-2 c =
-    let a = c.args in
-    let b = a.body.now in
-    let ok : refusal_of (length a.slots.now) (length a.join.now) b ≡ 0 = sym c.refuse-refusal.ensures ∙ c.if-refusal-ne0.false in
-    let fits : Fits b = fits_of _ (refusal_of-room _ _ _ ok).2 in
-    omega (arith, fits)
+bounds-body-2 c = omega (arith, passed _ _ _ _ c.refuse-refusal.ensures c.if-refusal-ne0.false)
 
 pub overflow_sub-k : goal.overflow_sub-k
-overflow_sub-k c =
-    let a = c.args in
-    let b = a.body.now in
-    let ok : refusal_of (length a.slots.now) (length a.join.now) b ≡ 0 = sym c.refuse-refusal.ensures ∙ c.if-refusal-ne0.false in
-    let fits : Fits b = fits_of _ (refusal_of-room _ _ _ ok).2 in
-    omega (arith, fits)
+overflow_sub-k c = omega (arith, passed _ _ _ _ c.refuse-refusal.ensures c.if-refusal-ne0.false)
 
 pub slice_bounds-piece-count : goal.slice_bounds-piece-count
-slice_bounds-piece-count c =
-    let a = c.args in
-    let b = a.body.now in
-    let ok : refusal_of (length a.slots.now) (length a.join.now) b ≡ 0 = sym c.refuse-refusal.ensures ∙ c.if-refusal-ne0.false in
-    let fits : Fits b = fits_of _ (refusal_of-room _ _ _ ok).2 in
-    omega (arith, fits)
+slice_bounds-piece-count c = omega (arith, passed _ _ _ _ c.refuse-refusal.ensures c.if-refusal-ne0.false)
 
 pub slice_bounds-piece-start : goal.slice_bounds-piece-start
-slice_bounds-piece-start c =
-    let a = c.args in
-    let b = a.body.now in
-    let ok : refusal_of (length a.slots.now) (length a.join.now) b ≡ 0 = sym c.refuse-refusal.ensures ∙ c.if-refusal-ne0.false in
-    let fits : Fits b = fits_of _ (refusal_of-room _ _ _ ok).2 in
-    omega (arith, fits)
+slice_bounds-piece-start c = omega (arith, passed _ _ _ _ c.refuse-refusal.ensures c.if-refusal-ne0.false)
 
 pub returns-then-how-eq-REPEATS : goal.returns-then-how-eq-REPEATS
 returns-then-how-eq-REPEATS c =
@@ -80,7 +54,7 @@ accept-requires c =
     let a = c.args in
     let b = a.body.now in
     let ok : refusal_of (length a.slots.now) (length a.join.now) b ≡ 0 = sym c.refuse-refusal.ensures ∙ c.if-refusal-ne0.false in
-    let fits : Fits b = fits_of _ (refusal_of-room _ _ _ ok).2 in
+    let fits = passed _ _ _ _ c.refuse-refusal.ensures c.if-refusal-ne0.false in
     let how : c.relate-how.result ≡ relation_of a.held a.slots.now b =
     c.relate-how.ensures ∙ ap (λ (l : List ℕ). relation_to a.held a.slots.now (count_of b) (number_of b) (slot_of b) l) (rest_all b 3) in
     let room : 24000 ≤ length a.join.now = (refusal_of-room _ _ _ ok).1 in

@@ -9,13 +9,8 @@ returns-then-next-eq0 c = settled_loose _ _ _ c.requires c.if-next-eq0.true
 
 -- every cut is good
 pub returns-in-Good : goal.returns-in-Good
-returns-in-Good c =
-    let e = c in
-    settled_good _ _ _ e.requires e.if-next-eq0.false c.judge_cuts.ensures c.in-Good.is
+returns-in-Good c = settled_good _ _ _ c.requires c.if-next-eq0.false c.judge_cuts.ensures c.in-Good.is
 
 -- dropped
 pub returns-in-Bad : goal.returns-in-Bad
-returns-in-Bad c =
-    let m = c in
-    let e = m in
-    settled-bad _ _ _ e.requires e.if-next-eq0.false m.judge_cuts.ensures m.in-Bad.is
+returns-in-Bad c = settled-bad _ _ _ c.requires c.if-next-eq0.false c.judge_cuts.ensures c.in-Bad.is

@@ -23,24 +23,16 @@ returns-then-k-ge16 c =
 
 -- the next cut is past the message's end
 pub returns-then-message-cut : goal.returns-then-message-cut
-returns-then-message-cut c =
-    let w = c in
-    walk_beyond _ _ _ _ _ w.loop-k.invariant.2 w.if-n-k.false _ _ refl refl c.if-message-cut.true
+returns-then-message-cut c = walk_beyond _ _ _ _ _ c.loop-k.invariant.2 c.if-n-k.false _ _ refl refl c.if-message-cut.true
 
 -- no element stands before it
 pub returns-in_default : goal.returns-in_default
-returns-in_default c =
-    let p = c in
-    let w = p in
-    walk_free _ _ _ _ _ w.loop-k.invariant.2 w.if-n-k.false _ _ refl refl _ p.pass_elements-at.ensures
+returns-in_default c = walk_free _ _ _ _ _ c.loop-k.invariant.2 c.if-n-k.false _ _ refl refl _ c.pass_elements-at.ensures
     c.read_head.ensures c.in_default.not-Value c.if-at-cut.true
 
 -- it is inside an element
 pub returns-then-at-cut : goal.returns-then-at-cut
-returns-then-at-cut c =
-    let p = c in
-    let w = p in
-    walk_bad _ _ _ _ _ w.loop-k.invariant.2 w.if-n-k.false _ _ refl refl _ p.pass_elements-at.ensures
+returns-then-at-cut c = walk_bad _ _ _ _ _ c.loop-k.invariant.2 c.if-n-k.false _ _ refl refl _ c.pass_elements-at.ensures
     c.read_head.ensures c.in-Value.is c.if-at-cut.true
 
 -- it is good

@@ -10,12 +10,8 @@ returns-then-stop-next-2 c = passing_long _ _ _ _ c.loop-from.invariant _ refl c
 
 -- a length of 255
 pub returns-then-len-eq255 : goal.returns-then-len-eq255
-returns-then-len-eq255 c =
-    let b = c in
-    passing_255 _ _ _ _ b.loop-from.invariant _ refl b.requires.1 b.if-stop-next.false c.if-len-eq255.true
+returns-then-len-eq255 c = passing_255 _ _ _ _ c.loop-from.invariant _ refl c.requires.1 c.if-stop-next.false c.if-len-eq255.true
 
 -- the element is passed
 pub loop-from-preserved : goal.loop-from-preserved
-loop-from-preserved c =
-    let b = c in
-    passing_on _ _ _ _ b.loop-from.invariant _ refl b.requires.1 b.if-stop-next.false c.if-stop-next-2.false c.if-len-eq255.false
+loop-from-preserved c = passing_on _ _ _ _ c.loop-from.invariant _ refl c.requires.1 c.if-stop-next.false c.if-stop-next-2.false c.if-len-eq255.false
