@@ -11,15 +11,7 @@ use dsg_events::event_value;
 use modem_record::Modem;
 
 // One event for a record that the host lends.
-pub fn dsg_event(
-    modem: &mut Modem,
-    clock: u32,
-    event: u8,
-    a: u16,
-    b: u16,
-    c: u16,
-    d: u16,
-) -> u32
+pub fn dsg_event(modem: &mut Modem, clock: u32, event: u8, a: u16, b: u16, c: u16, d: u16) -> u32
     ensures { record { number = result; modem = modem.new } ≡ event_stepped modem.old clock event a b c d }
 {
     let s = event_value(*modem, clock, event, a, b, c, d);

@@ -19,14 +19,7 @@ pub fn dsg_choose(table: &Table, kind: u8, value: u64, known: u8, ucid: u8) -> C
 }
 
 // The verdict on a frame, by a table that the host lends.
-pub fn dsg_judge(
-    table: &Table,
-    kind: u8,
-    value: u64,
-    known: u8,
-    ucid: u8,
-    frame: &[u8],
-) -> Verdict
+pub fn dsg_judge(table: &Table, kind: u8, value: u64, known: u8, ucid: u8, frame: &[u8]) -> Verdict
     ensures { result ≡ verdict_for table.now kind value known ucid frame.now }
 {
     judge_value(*table, kind, value, known, ucid, frame)
