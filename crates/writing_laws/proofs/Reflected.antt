@@ -3,7 +3,6 @@
 --   producible_true    the test passed: Producible             producible_claims   Producible: the test passes
 --   refused_exact      19 exactly where no message of bytes reads to the table
 -- Trusts: nothing.
-use Prim.Native.Nat.{◌-◌}
 use mathlib.Core.Path.{◌≡◌, refl, sym, ap, ◌∙◌}
 use mathlib.Core.Bool.{Bool, true, false, not}
 use borrow.Author.Tests.{leb-true, not-true}

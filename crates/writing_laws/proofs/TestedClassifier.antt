@@ -3,7 +3,7 @@
 --   part_true, part_claims                                       an optional part: from the test, to the test
 --   classifier_true, classifier_claims, classifier-empty         a classifier; an unused one
 -- Trusts: nothing.
-use Prim.Native.Nat.{ℕ, ◌-◌, ◌^◌, ◌<◌}
+use Prim.Native.Nat.{ℕ, ◌^◌, ◌<◌}
 use mathlib.Core.Path.{◌≡◌, refl}
 use mathlib.Core.Bool.{Bool, true, false, cond}
 use borrow.Author.Tests.{eqb-true}

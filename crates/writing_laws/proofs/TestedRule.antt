@@ -3,7 +3,7 @@
 --   client_true, client_claims, client-empty     a client ID: from the test, to the test, an unused one
 --   rule_true, rule_claims, rule-empty           a rule
 -- Trusts: nothing.
-use Prim.Native.Nat.{ℕ, ◌-◌, ◌^◌, ◌≤◌, ◌<◌}
+use Prim.Native.Nat.{ℕ, ◌^◌, ◌≤◌, ◌<◌}
 use mathlib.Core.Path.{◌≡◌, refl, ap, ◌∙◌}
 use mathlib.Core.Bool.{Bool, true, false, cond, not, ◌&&◌}
 use mathlib.Core.List.{List}
