@@ -4,7 +4,7 @@
 --   One seen Met          what two results of the same call show is the same
 --   only                  the first says the second
 --   Says T clauses Met    the written contract of a function is the plain fact Met, in every model of the logic
---   WalkedGives, WalkedOne   the same two of a function that is walked by hand, for which no plain fact is read out
+--   WalkedGives, WalkedOne   the same two of a contract as it is written, of which the plain fact is said here
 --   fixed, only_walked    a contract that is one equation gives its right side; the first says the second
 --
 -- `Met a x s` is a function's contract as its crate has it: `a` the arguments as they are passed, `x` the result, `s` the arguments when
@@ -44,7 +44,7 @@ Says T clauses Met = (M : Type 1) (𝓤 : Ura M) (𝓛 : Logic 𝓤) (mem : Memo
     (κs : Lfts T.signature.lifetimes) (a : Args T.signature κs) (g : (clauses M 𝓤 𝓛 mem run κs a).ghost) (x : Res T.signature κs) (s : AtExit T κs)
     → (clauses M 𝓤 𝓛 mem run κs a).ensures g x s ≡ fact 𝓤 (Met κs a x s)
 
--- ---- the same of a function that is walked by hand, for which no plain fact is read out: the fact is written, and is the contract
+-- ---- the same of a contract as it is written: the plain fact is said, and is the contract
 
 module _ (T : Ended) (clauses : (M : Type 1) (𝓤 : Ura M) → (𝓛 : Logic 𝓤) → (Memory → SProp 𝓤) → (Routine → Fun 𝓤) → Clauses 𝓤 T) {L : Type 0}
     (seen : (κs : Lfts T.signature.lifetimes) → Res T.signature κs → AtExit T κs → L) where

@@ -72,7 +72,7 @@ LentSeen κs x s = record {
 abbrev pub lent_for : (κs : Lfts 3) → Args collect_lent.signature κs → LentAt
 lent_for κs a = lent_at a.0 a.1.0.now (part a.1.1.0.ref_ptr a.1.1.0.now) (part a.1.1.1.0.ref_ptr a.1.1.1.0.now)
 
--- it is walked by hand, so its plain fact is written out, and `collect_lent_says` is that this is the contract
+-- its plain fact is written out, and `collect_lent_says` is that this is the contract
 abbrev pub CollectLent : (κs : Lfts 3) → Args collect_lent.signature κs → Res collect_lent.signature κs → AtExit collect_lent.ended κs → Type 0
 CollectLent κs a x s = LentSeen κs x s ≡ lent_for κs a
 

@@ -121,7 +121,7 @@ pub act_gives : (κs : Lfts 0) → Gives answer (act_contract.Post κs)
     (λ a. event_on (event_of a.1.0 a.1.1.0 a.1.1.1.0 a.1.1.1.1.0 a.1.1.1.1.1.0) a.0)
 act_gives κs a x s h = h
 
--- the same on a record that is lent: walked by hand
+-- the same on a record that is lent
 abbrev pub OnEvent : (κs : Lfts 1) → Args on_event.signature κs → Res on_event.signature κs → AtExit on_event.ended κs → Type 0
 OnEvent κs a x s = as_numbers (record { answer = x; modem = s.0.now }) ≡ as_numbers (stepped_modem a.0.now a.1.0 a.1.1.0)
 

@@ -1,6 +1,6 @@
 -- Exported: what the functions that a C host calls give (crate dsg): each its definition, for every input and whatever is lent.
 --
--- A function that takes a record behind a reference is walked by hand: `WalkedGives` (proofs/Contract.antt) says that its contract is a plain
+-- Of a function that takes a record behind a reference, `WalkedGives` (proofs/Contract.antt) says that its contract as it is written is a plain
 -- fact, here one equation, and what the fact gives. For the others the toolchain reads the fact out, as in Parts. `met` of each function, in
 -- its own crate, says that the compiled function meets the contract cited here.
 -- Trusts: nothing.

@@ -4,6 +4,7 @@
 -- Demand1: what a refusal leaves, and its numbers; with Demand1Dropped (21, which empties the record), Demand1Receive, Demand1Frames and, as a C host sees it, Demand1C.
 -- Demand3: a cut message completes once, at its last missing piece; what is lent, named to a C host and read there is the uncut one.
 -- OneAnswer, OneAnswerParts, OneAnswerPieces, OneAnswerC: every contract admits one answer.      Values: both, of the functions under the C interface.
+-- Writers: the same of the public functions of writing.
 -- Lendable: demand 2 for every record that a call can be lent.
 -- Starred: the starred examples, one list under one theorem.      Listed: the example of dcdlist.
 -- Sentences: sentences of document 01 that follow from the definitions.
@@ -30,6 +31,7 @@ pub mod OneAnswer
 pub mod OneAnswerParts
 pub mod OneAnswerPieces
 pub mod OneAnswerC
+pub mod Writers
 pub mod Lendable
 pub mod Starred
 pub mod Listed
