@@ -13,11 +13,10 @@ use Rattle.table.specs.declared.Client.{Client}
 use Rattle.table.specs.declared.Rule.{Rule}
 use Rattle.table.specs.declared.Table.{Table}
 use Rattle.table.specs.Table.{rules_of, clients_of, ucids_of, empty_client, empty_rule, empty_classifier, default_timers}
-use Rattle.choice.specs.declared.Ucid.{Ucid}
-use Rattle.choice.specs.declared.Ucid.TheVariants.{Unknown, Known}
-use Rattle.choice.specs.declared.Choice.TheVariants.{Chosen, Refused}
+use Rattle.std.specs.Prelude.{None, Some}
+use Rattle.choice.specs.Chose.{Chosen, Refused}
 use Rattle.order.specs.Best.{comes_before, any_of, first_place, is_best, best_place}
-use Rattle.choice.specs.Choose.{is_client, lists_client, lists_ucid, admits_ucid, fits_client, chosen_place, chosen_rule, choice_of, rule_at}
+use Rattle.choice.specs.Choose.{Ucid, is_client, lists_client, lists_ucid, admits_ucid, fits_client, chosen_place, chosen_rule, choice_of, rule_at}
 
 abbrev pub application42 : Client
 application42 = record { kind = 4; value = 42 }
@@ -60,17 +59,17 @@ choice_of_rules t s c u e = rw e
 
 pub starred : (u : Ucid) → (choice_of table_m application42 u ≡ Chosen 0) × ((rule_at table_m 0).number ≡ 5)
 unfolding choice_of chosen_place best_place first_place is_best any_of comes_before fits_client lists_client lists_ucid admits_ucid is_client rules_of clients_of ucids_of
-starred Unknown = (refl, refl)
-starred (Known n) = (refl, refl)
+starred None = (refl, refl)
+starred (Some n) = (refl, refl)
 
 -- the rules the other way round: rule 5 all the same
 pub turned : (u : Ucid) → (chosen_rule application42 u (rule_m 6 9 0x01005e060606 ∷ rule_m 5 80 0x01005e050505 ∷ [])).number ≡ 5
 unfolding chosen_rule chosen_place best_place first_place is_best any_of comes_before fits_client lists_client lists_ucid admits_ucid is_client rules_of clients_of ucids_of
-turned Unknown = refl
-turned (Known n) = refl
+turned None = refl
+turned (Some n) = refl
 
 -- a client that no rule of M lists
 pub unlisted : (u : Ucid) → choice_of table_m (record { kind = 3; value = 42 }) u ≡ Refused 17
 unfolding choice_of chosen_place best_place first_place is_best any_of comes_before fits_client lists_client lists_ucid admits_ucid is_client rules_of clients_of ucids_of
-unlisted Unknown = refl
-unlisted (Known n) = refl
+unlisted None = refl
+unlisted (Some n) = refl

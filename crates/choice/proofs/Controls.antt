@@ -8,11 +8,9 @@ use Prim.Native.Nat.{ℕ}
 use native.Mathlib.Omega.{arith}
 use Rattle.table.specs.declared.Client.{Client}
 use Rattle.table.specs.declared.Table.{Table}
-use Rattle.choice.specs.declared.Ucid.{Ucid}
-use Rattle.choice.specs.declared.Ucid.TheVariants.{Unknown}
-use Rattle.choice.specs.declared.Choice.{Choice}
-use Rattle.choice.specs.declared.Choice.TheVariants.{Chosen, Refused}
-use Rattle.choice.specs.Choose.{choice_of}
+use Rattle.std.specs.Prelude.{None}
+use Rattle.choice.specs.Chose.{Choice, Chosen, Refused}
+use Rattle.choice.specs.Choose.{Ucid, choice_of}
 use Rattle.choice.proofs.Bench.{application42, table_m, starred, unlisted}
 
 module _ (choose : Table → Client → Ucid → Choice) (promise : (t : Table) (c : Client) (u : Ucid) → choose t c u ≡ choice_of t c u) where
@@ -20,12 +18,12 @@ module _ (choose : Table → Client → Ucid → Choice) (promise : (t : Table) 
   no_one_rule same =
       let listed : Client = application42 in
       let other : Client = record { kind = 3; value = 42 } in
-      let a : Chosen 0 ≡ Refused 17 = sym (starred Unknown).0 ∙ sym (promise table_m listed Unknown) ∙ same table_m listed other Unknown ∙ promise table_m other Unknown ∙ unlisted Unknown in
+      let a : Chosen 0 ≡ Refused 17 = sym (starred None).0 ∙ sym (promise table_m listed None) ∙ same table_m listed other None ∙ promise table_m other None ∙ unlisted None in
       let z : ◌≡◌ {A = ℕ} 0 1 = cc in
       omega arith
 
-  pub no_text_order : choose table_m application42 Unknown ≡ Chosen 1 → ⊥
+  pub no_text_order : choose table_m application42 None ≡ Chosen 1 → ⊥
   no_text_order e =
-      let a : Chosen 0 ≡ Chosen 1 = sym (starred Unknown).0 ∙ sym (promise table_m application42 Unknown) ∙ e in
+      let a : Chosen 0 ≡ Chosen 1 = sym (starred None).0 ∙ sym (promise table_m application42 None) ∙ e in
       let z : ◌≡◌ {A = ℕ} 0 1 = cc in
       omega arith

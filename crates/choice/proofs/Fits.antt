@@ -21,11 +21,9 @@ use Rattle.table.specs.declared.Rule.{Rule}
 use Rattle.table.specs.declared.Table.{Table}
 use Rattle.table.specs.Table.{limited_to, rules_of, empty_rule}
 use Rattle.table.proofs.Laws.{limited_to_le}
-use Rattle.choice.specs.declared.Ucid.{Ucid}
-use Rattle.choice.specs.declared.Choice.{Choice}
-use Rattle.choice.specs.declared.Choice.TheVariants.{Chosen, Refused}
+use Rattle.choice.specs.Chose.{Choice, Chosen, Refused}
 use Rattle.order.specs.Best.{comes_before}
-use Rattle.choice.specs.Choose.{lists_client, fits_client, chosen_place, choice_of, rule_at, FitsBest}
+use Rattle.choice.specs.Choose.{Ucid, lists_client, fits_client, chosen_place, choice_of, rule_at, FitsBest}
 use Rattle.order.proofs.Order.{comes_before-yes, comes_before_no}
 use Rattle.order.proofs.Places.{best_place-none, best_place_le}
 use Rattle.order.proofs.Scan.{best_place_nobody}

@@ -19,10 +19,8 @@ use Rattle.table.specs.declared.Table.{Table}
 use Rattle.table.specs.declared.Rule.{Rule}
 use Rattle.table.specs.Table.{limited_to, rules_of, empty_rule}
 use Rattle.table.proofs.Laws.{limited_to_le, length-rules_of}
-use Rattle.choice.specs.declared.Ucid.{Ucid}
-use Rattle.choice.specs.declared.Choice.{Choice}
-use Rattle.choice.specs.declared.Choice.TheVariants.{Chosen, Refused}
-use Rattle.choice.specs.Choose.{chosen_place, choice_of, rule_at}
+use Rattle.choice.specs.Chose.{Choice, Chosen, Refused}
+use Rattle.choice.specs.Choose.{Ucid, chosen_place, choice_of, rule_at}
 
 pub get_or_there : {A : Type 0} (xs : List A) (k : ℕ) (d e : A) → k < length xs → get_or xs k d ≡ get_or xs k e
 get_or_there [] k d e h = absurd (omega arith)

@@ -18,9 +18,8 @@ use borrow.Author.Tests.{ltb-true, ltb-false}
 use Rattle.table.specs.declared.Client.{Client}
 use Rattle.table.specs.declared.Rule.{Rule}
 use Rattle.table.specs.Table.{empty_rule}
-use Rattle.choice.specs.declared.Ucid.{Ucid}
 use Rattle.order.specs.Best.{comes_before}
-use Rattle.choice.specs.Choose.{fits_client, chosen_place, chosen_rule}
+use Rattle.choice.specs.Choose.{Ucid, fits_client, chosen_place, chosen_rule}
 use Rattle.order.proofs.Order.{comes_before_tied}
 use Rattle.order.proofs.Places.{clash, best_place_le}
 use Rattle.order.proofs.Scan.{best_place_nobody}

@@ -17,10 +17,9 @@ use Rattle.table.specs.declared.Rule.{Rule}
 use Rattle.table.specs.declared.Table.{Table}
 use Rattle.table.specs.Table.{rules_of}
 use Rattle.order.specs.declared.Best.{Best}
-use Rattle.choice.specs.declared.Ucid.{Ucid}
-use Rattle.choice.specs.declared.Choice.TheVariants.{Chosen, Refused}
+use Rattle.choice.specs.Chose.{Chosen, Refused}
 use Rattle.order.specs.Best.{is_better, best_after}
-use Rattle.choice.specs.Choose.{fits_client, chosen_place, choice_of}
+use Rattle.choice.specs.Choose.{Ucid, fits_client, chosen_place, choice_of}
 use Rattle.order.proofs.Scan.{nothing, scan, scan_none, scan_some}
 
 abbrev pub walk : Client → Ucid → Best → ℕ → List Rule → Best

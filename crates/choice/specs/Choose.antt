@@ -1,5 +1,6 @@
 -- Choose: the rule for a client (document 01, "Choosing and judging").
 --
+--   Ucid                     what is known of the upstream channel: its number, or none
 --   is_client a b            the same kind and the same value
 --   lists_client, lists_ucid  whether a rule lists a client, a UCID
 --   admits_ucid rule u       the rule has no UCID list, or the UCID is known and in it
@@ -13,16 +14,16 @@
 -- A client of kind 0 is the length-0 broadcast and fits an entry of kind 0 only, also where values are 0.
 -- Tested by: message M in proofs/Bench.antt; random tables against the other program.
 -- Trusts: nothing.
-use Rattle.std.specs.Prelude.{ℕ, ◌≤◌, ◌<◌, ◌≡◌, Bool, true, cond, ◌&&◌, ◌||◌, List, length, get_or, ltb, eqb}
+use Rattle.std.specs.Prelude.{ℕ, ◌≤◌, ◌<◌, ◌≡◌, Bool, true, cond, ◌&&◌, ◌||◌, List, length, get_or, ltb, eqb, Option, None, Some}
 use Rattle.table.specs.declared.Client.{Client}
 use Rattle.table.specs.declared.Rule.{Rule}
 use Rattle.table.specs.declared.Table.{Table}
 use Rattle.table.specs.Table.{rules_of, clients_of, ucids_of, empty_rule}
-use Rattle.choice.specs.declared.Ucid.{Ucid}
-use Rattle.choice.specs.declared.Ucid.TheVariants.{Unknown, Known}
-use Rattle.choice.specs.declared.Choice.{Choice}
-use Rattle.choice.specs.declared.Choice.TheVariants.{Chosen, Refused}
 use Rattle.order.specs.Best.{any_of, best_place}
+use Rattle.choice.specs.Chose.{Choice, Chosen, Refused}
+
+abbrev pub Ucid : Type 0
+Ucid = Option ℕ
 
 unfoldable pub is_client : Client → Client → Bool
 is_client a b = eqb a.kind b.kind && eqb a.value b.value
@@ -34,8 +35,8 @@ unfoldable pub lists_ucid : Rule → ℕ → Bool
 lists_ucid rule u = any_of (eqb u) (ucids_of rule)
 
 unfoldable pub admits_ucid : Rule → Ucid → Bool
-admits_ucid rule Unknown = eqb rule.ucidcount 0
-admits_ucid rule (Known u) = eqb rule.ucidcount 0 || lists_ucid rule u
+admits_ucid rule None = eqb rule.ucidcount 0
+admits_ucid rule (Some u) = eqb rule.ucidcount 0 || lists_ucid rule u
 
 unfoldable pub fits_client : Client → Ucid → Rule → Bool
 fits_client c u rule = lists_client rule c && admits_ucid rule u

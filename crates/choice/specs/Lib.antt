@@ -1,2 +1,2 @@
-pub mod Choose
 pub mod Chose
+pub mod Choose

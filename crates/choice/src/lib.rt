@@ -1,35 +1,18 @@
 // Chooses the rule for a client (document 01, "Choosing and judging").
 //
-// Two public functions. `choose_rule` takes any lent table, client and UCID, and answers the rule's place
-// or refusal 17; `rule_at` gives the rule there. Both take any input; a count above its limit is read as the
-// limit. Nothing is written.
+// Two public functions. `choose_rule` takes any lent table, client and UCID, and answers the rule's place in the
+// table, from 0, or refusal 17; `rule_at` gives the rule there. A UCID is the number of the upstream channel, none
+// where no channel is known. Both take any input; a count above its limit is read as the limit. Nothing is written.
 #![tactic(auto)]
 
 ghost use Rattle.std.specs.Prelude.{◌≡◌, false, ◌&&◌, ◌||◌, eqb};
 ghost use Rattle.order.specs.Best.{is_better, best_after};
-ghost use Rattle.choice.specs.Choose.{is_client, lists_client, lists_ucid, admits_ucid, fits_client, choice_of, rule_at};
+ghost use Rattle.choice.specs.Choose.{Ucid, is_client, lists_client, lists_ucid, admits_ucid, fits_client, choice_of, rule_at};
 ghost use Rattle.choice.specs.Chose.{chose};
 
 use order::{Best, is_better};
+use refusals::Refusal;
 use table::{Client, Rule, Table, empty_rule, limited};
-
-// What is known of the upstream channel.
-#[derive(Clone, Copy)]
-pub enum Ucid {
-    // No upstream channel is known.
-    Unknown,
-    // The number of the upstream channel.
-    Known(u8),
-}
-
-// The answer of `choose_rule`.
-#[derive(Clone, Copy)]
-pub enum Choice {
-    // The place of the rule in the table, from 0.
-    Chosen(usize),
-    // The number of the refusal.
-    Refused(u8),
-}
 
 // Whether two client IDs have the same kind and the same value.
 fn is_client(a: Client, b: Client) -> bool
@@ -103,20 +86,20 @@ fn lists_ucid(rule: Rule, ucid: u8) -> bool
 }
 
 // Whether the rule has no UCID list, or the UCID is known and in it.
-fn admits_ucid(rule: Rule, ucid: Ucid) -> bool
+fn admits_ucid(rule: Rule, ucid: Option<u8>) -> bool
     ensures { result ≡ admits_ucid rule ucid }
 {
     if rule.ucidcount == 0 {
         return true;
     }
     match ucid {
-        Ucid::Unknown => false,
-        Ucid::Known(number) => lists_ucid(rule, number),
+        None => false,
+        Some(number) => lists_ucid(rule, number),
     }
 }
 
 // Whether the rule fits the client.
-fn fits_client(rule: Rule, client: Client, ucid: Ucid) -> bool
+fn fits_client(rule: Rule, client: Client, ucid: Option<u8>) -> bool
     ensures { result ≡ fits_client client ucid rule }
 {
     if lists_client(rule, client) {
@@ -137,7 +120,7 @@ fn may_win(best: Best, rule: Rule, client: Client) -> bool
 }
 
 // The best so far after the rule at place `at`.
-fn take_rule(best: Best, at: usize, rule: Rule, client: Client, ucid: Ucid) -> Best
+fn take_rule(best: Best, at: usize, rule: Rule, client: Client, ucid: Option<u8>) -> Best
     ensures { result ≡ best_after best at rule.priority rule.number (fits_client client ucid rule) }
 {
     let number = rule.number as u16;
@@ -156,8 +139,8 @@ fn take_rule(best: Best, at: usize, rule: Rule, client: Client, ucid: Ucid) -> B
 
 // The rule for a client: the greatest priority, among equals the smallest number, then the first. A rule is
 // read anew where it may win, so that the others cost no more than their clients' values.
-pub fn choose_rule(table: Table, client: Client, ucid: Ucid) -> Choice
-    ensures { chose result ≡ chose (choice_of table client ucid) }
+pub fn choose_rule(table: Table, client: Client, ucid: Option<u8>) -> Result<usize, Refusal>
+    ensures { chose result ≡ choice_of table client ucid }
 {
     let n = limited(table.rulecount, 32);
     let mut best = Best {
@@ -177,9 +160,9 @@ pub fn choose_rule(table: Table, client: Client, ucid: Ucid) -> Choice
     }
     let place = best.place;
     if place == 32 {
-        return Choice::Refused(17);
+        return Err(Refusal::NoRule);
     }
-    Choice::Chosen(place)
+    Ok(place)
 }
 
 // The rule at a place of the table; an unused one beyond its last rule.

@@ -23,12 +23,11 @@ use Rattle.table.specs.Table.{rules_of, clients_of, empty_client, empty_rule, em
 use Rattle.reader.specs.Read.{number_of, read_table}
 use Rattle.reader.specs.declared.Reading.{Reading}
 use Rattle.reader.proofs.Controls as reader
-use Rattle.choice.specs.declared.Ucid.{Ucid}
-use Rattle.choice.specs.declared.Ucid.TheVariants.{Unknown}
-use Rattle.choice.specs.declared.Choice.{Choice}
-use Rattle.choice.specs.declared.Choice.TheVariants as choice
+use Rattle.std.specs.Prelude.{None}
+use Rattle.choice.specs.Chose as choice
+use Rattle.choice.specs.Chose.{Choice}
 use Rattle.order.specs.Best.{comes_before, any_of, first_place, is_best, best_place}
-use Rattle.choice.specs.Choose.{is_client, lists_client, admits_ucid, fits_client, chosen_place, choice_of}
+use Rattle.choice.specs.Choose.{Ucid, is_client, lists_client, admits_ucid, fits_client, chosen_place, choice_of}
 use Rattle.payloads.specs.declared.Verdict.{Verdict}
 use Rattle.tunnel.specs.Judge.{verdict_of}
 use Rattle.tunnel.proofs.Headers.{plain_verdict}
@@ -72,16 +71,16 @@ two_rules =
     let both = rule_for 1 ∷ rule_for 2 ∷ replicate 30 empty_rule in
     record { rulecount = 2; classifiercount = 0; channelcount = 0; timers = default_timers; channels = replicate 32 0; classifiers = replicate 32 empty_classifier; rules = both }
 
-each_its_own : (choice_of two_rules (application 1) Unknown ≡ choice.Chosen 0) × (choice_of two_rules (application 2) Unknown ≡ choice.Chosen 1)
+each_its_own : (choice_of two_rules (application 1) None ≡ choice.Chosen 0) × (choice_of two_rules (application 2) None ≡ choice.Chosen 1)
 unfolding choice_of chosen_place best_place is_best first_place any_of comes_before fits_client admits_ucid lists_client is_client rules_of clients_of
 each_its_own = (refl, refl)
 
 pub no_one_tunnel : (f : Table → Client → Ucid → Choice) → ((t : Table) (c : Client) (u : Ucid) → f t c u ≡ choice_of t c u)
     → ((t : Table) (c d : Client) (u : Ucid) → f t c u ≡ f t d u) → ⊥
 no_one_tunnel f meets same =
-    let first = meets two_rules (application 1) Unknown in
-    let second = meets two_rules (application 2) Unknown in
-    let e : choice.Chosen 0 ≡ choice.Chosen 1 = sym each_its_own.0 ∙ sym first ∙ same two_rules (application 1) (application 2) Unknown ∙ second ∙ each_its_own.1 in
+    let first = meets two_rules (application 1) None in
+    let second = meets two_rules (application 2) None in
+    let e : choice.Chosen 0 ≡ choice.Chosen 1 = sym each_its_own.0 ∙ sym first ∙ same two_rules (application 1) (application 2) None ∙ second ∙ each_its_own.1 in
     let z : ◌≡◌ {A = ℕ} 0 1 = cc in
     omega arith
 

@@ -35,8 +35,8 @@ use Rattle.receiver.specs.Receive.{Told, Had, receive_step}
 use Rattle.notices.specs.Listing as listed
 use Rattle.notices.specs.Listing.{Written, listing}
 use Rattle.choice.specs.Choose as choose
-use Rattle.choice.specs.declared.Choice.{Choice}
-use Rattle.choice.specs.declared.Choice.TheVariants as choice
+use Rattle.choice.specs.Chose as choice
+use Rattle.choice.specs.Chose.{Choice}
 use Rattle.tunnel_parts.specs.declared.Tunnel.{Tunnel}
 use Rattle.payloads.specs.declared.Verdict as frames
 use Rattle.payloads.specs.declared.Verdict.TheVariants as verdict

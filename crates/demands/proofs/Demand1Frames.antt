@@ -18,11 +18,10 @@ use lib.Dec.{eqb, ltb}
 use Rattle.table.specs.declared.Client.{Client}
 use Rattle.table.specs.declared.Table.{Table}
 use Rattle.table.specs.Table.{rules_of, limited_to, classifiers_of, empty_classifier}
-use Rattle.choice.specs.declared.Ucid.{Ucid}
-use Rattle.choice.specs.declared.Choice.{Choice}
-use Rattle.choice.specs.declared.Choice.TheVariants as choice
+use Rattle.choice.specs.Chose as choice
+use Rattle.choice.specs.Chose.{Choice}
 use Rattle.order.specs.Best.{first_place}
-use Rattle.choice.specs.Choose.{chosen_place, choice_of, rule_at}
+use Rattle.choice.specs.Choose.{Ucid, chosen_place, choice_of, rule_at}
 use Rattle.tunnel_parts.specs.declared.Tunnel.{Tunnel}
 use Rattle.payloads.specs.declared.Verdict.{Verdict}
 use Rattle.payloads.specs.declared.Verdict.TheVariants as verdict

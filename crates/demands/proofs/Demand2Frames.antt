@@ -11,7 +11,7 @@ use Rattle.order.specs.Best.{is_better}
 use Rattle.choice.specs.Choose.{choice_of, rule_at}
 use Rattle.order.proofs.is_better.Reads as is_better_contract
 use Rattle.choice.proofs.rule_at.Reads as choice_rule_at_contract
-use Rattle.choice.proofs.Chose.{chose_only}
+use Rattle.choice.specs.Chose.{Choice, chose}
 use Rattle.choice.proofs.choose_rule.Reads as choose_rule_contract
 use Rattle.choice.proofs.choose_rule.Statement as choose_rule'
 use Rattle.choice.proofs.choose_rule.Met as choose_rule''
@@ -56,8 +56,8 @@ use Rattle.modem.proofs.on_event.Met as on_event''
 pub choose_rule_met : {M : Type 1} → choose_rule'.statement M
 choose_rule_met = choose_rule''.met
 
-pub choose_rule_gives : (κs : Lfts 0) → Gives answer (choose_rule_contract.Post κs) (λ a. choice_of a.0 a.1.0 a.1.1.0)
-choose_rule_gives κs a x s h = chose_only _ _ h
+pub choose_rule_gives : (κs : Lfts 0) → Gives {L = Choice} (λ x s. chose x) (choose_rule_contract.Post κs) (λ a. choice_of a.0 a.1.0 a.1.1.0)
+choose_rule_gives κs a x s h = h
 
 pub choice_rule_at_gives : (κs : Lfts 0) → Gives answer (choice_rule_at_contract.Post κs) (λ a. rule_at a.0 a.1.0)
 choice_rule_at_gives κs a x s h = h

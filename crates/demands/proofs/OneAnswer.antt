@@ -24,6 +24,7 @@ use Rattle.messages.proofs.find_message.Reads as find_message_contract
 use Rattle.messages.proofs.own_part.Reads as own_part_contract
 use Rattle.messages.proofs.joined_part.Reads as joined_part_contract
 use Rattle.order.proofs.is_better.Reads as is_better_contract
+use Rattle.choice.proofs.Chose.{chose_only}
 use Rattle.choice.proofs.rule_at.Reads as choice_rule_at_contract
 use Rattle.choice.proofs.choose_rule.Reads as choose_rule_contract
 use Rattle.tunnel.proofs.judge_frame.Reads as judge_frame_contract
@@ -78,7 +79,7 @@ pub is_better_one : (κs : Lfts 0) → One answer (is_better_contract.Post κs)
 is_better_one κs = only (frames.is_better_gives κs)
 
 pub choose_rule_one : (κs : Lfts 0) → One answer (choose_rule_contract.Post κs)
-choose_rule_one κs = only (frames.choose_rule_gives κs)
+choose_rule_one κs a x y s t h g = chose_only x y (only (frames.choose_rule_gives κs) a x y s t h g)
 
 pub choice_rule_at_one : (κs : Lfts 0) → One answer (choice_rule_at_contract.Post κs)
 choice_rule_at_one κs = only (frames.choice_rule_at_gives κs)

@@ -28,9 +28,8 @@ use Rattle.rows.specs.Rows.{element_with, row_step, row_of, element_of, tested_a
 use Rattle.children.specs.Rows.{done, item, row_from, row_in, row_inside}
 use Rattle.clients.specs.Clients.{with_client_child, clients_in}
 use Rattle.rules.specs.Rules.{with_rule_child, rule_at}
-use Rattle.choice.specs.declared.Ucid.{Ucid}
 use Rattle.order.specs.Best.{any_of}
-use Rattle.choice.specs.Choose.{lists_client, fits_client}
+use Rattle.choice.specs.Choose.{Ucid, lists_client, fits_client}
 use Rattle.named.specs.Named.{unanswered, lone_number}
 use Rattle.named.specs.declared.Found.TheVariants.{Nothing}
 use Rattle.reader.specs.Take.{with_rule, with_element, is_taken}

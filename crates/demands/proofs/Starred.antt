@@ -19,9 +19,9 @@ use Rattle.reader.specs.Read.{refusal, read_table}
 use Rattle.reader.specs.declared.Reading.{Reading}
 use Rattle.reader.specs.declared.Verdict.{Verdict}
 use Rattle.reader.specs.declared.Verdict.TheVariants as verdict
-use Rattle.choice.specs.declared.Ucid.TheVariants.{Unknown}
-use Rattle.choice.specs.declared.Choice.{Choice}
-use Rattle.choice.specs.declared.Choice.TheVariants as choice
+use Rattle.std.specs.Prelude.{None}
+use Rattle.choice.specs.Chose as choice
+use Rattle.choice.specs.Chose.{Choice}
 use Rattle.order.specs.Best.{comes_before, any_of, first_place, is_best, best_place}
 use Rattle.choice.specs.Choose.{is_client, lists_client, admits_ucid, fits_client, chosen_place, choice_of, rule_at}
 use Rattle.collection.specs.Record.{empty_collection}
@@ -67,7 +67,7 @@ lent slots join = record { held = empty_collection 0 0 0; slots = slots; join = 
 
 abbrev pub examples : Table → List ℕ → List ℕ → List Outcome
 examples given slots join =
-    chosen (read_table given M).table (choice_of (read_table given M).table application Unknown)
+    chosen (read_table given M).table (choice_of (read_table given M).table application None)
     ∷ told (reply_to (lent slots join) [] second_body)
     ∷ told (reply_to (lent slots join) (second_body ∷ []) first_body)
     ∷ read given []
@@ -137,7 +137,7 @@ read_tdsg3 given = ap (λ (l : List Reading). get_or l 6 (reader.accepted empty_
 read_63 : (given : Table) → read_table given (0x63 ∷ 1 ∷ 0 ∷ []) ≡ reader.accepted empty_table
 read_63 given = ap (λ (l : List Reading). get_or l 7 (reader.accepted empty_table)) (reader.starred given)
 
-gets_M : choice_of table_m application Unknown ≡ choice.Chosen 0
+gets_M : choice_of table_m application None ≡ choice.Chosen 0
 unfolding rules_of clients_of comes_before any_of first_place is_best best_place is_client lists_client admits_ucid fits_client chosen_place choice_of
 gets_M = refl
 

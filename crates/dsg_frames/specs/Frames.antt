@@ -8,13 +8,11 @@
 --   verdict_for t kind value known ucid frame    what `dsg_judge` answers
 --
 -- Kinds of a verdict: 0 refused, 1 other, 2 forward, 3 filtered. What an answer does not use is 0. Trusts: nothing.
-use Rattle.std.specs.Prelude.{ℕ, ◌-◌, cond, List, length, eqb}
+use Rattle.std.specs.Prelude.{ℕ, ◌-◌, cond, List, length, eqb, None, Some}
 use Rattle.table.specs.declared.Client.{Client}
 use Rattle.table.specs.declared.Table.{Table}
-use Rattle.choice.specs.declared.Ucid.{Ucid}
-use Rattle.choice.specs.declared.Ucid.TheVariants.{Unknown, Known}
-use Rattle.choice.specs.declared.Choice as rules
-use Rattle.choice.specs.Choose.{choice_of, refusal_of, place_of}
+use Rattle.choice.specs.Chose as rules
+use Rattle.choice.specs.Choose.{Ucid, choice_of, refusal_of, place_of}
 use Rattle.payloads.specs.declared.Verdict as frames
 use Rattle.payloads.specs.declared.Verdict.TheVariants.{Refused, Other, Forward, Filtered}
 use Rattle.payloads.specs.Payload.{payload_range}
@@ -23,7 +21,7 @@ use Rattle.dsg_frames.specs.declared.Choice.{Choice}
 use Rattle.dsg_frames.specs.declared.Verdict.{Verdict}
 
 abbrev pub ucid_of : ℕ → ℕ → Ucid
-ucid_of known ucid = cond (eqb known 0) Unknown (Known ucid)
+ucid_of known ucid = cond (eqb known 0) None (Some ucid)
 
 abbrev pub client_of : ℕ → ℕ → Client
 client_of kind value = record { kind = kind; value = value }

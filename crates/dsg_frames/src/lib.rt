@@ -5,11 +5,12 @@
 #![tactic(auto)]
 
 ghost use Rattle.std.specs.Prelude.{◌≡◌, length};
+ghost use Rattle.choice.specs.Chose.{chose};
 ghost use Rattle.tunnel_parts.specs.Prepared.{lent_tunnel, prepared_verdict};
 ghost use Rattle.preparing.specs.Preparing.{prepared_tunnel};
 ghost use Rattle.dsg_frames.specs.Frames.{client_of, ucid_of, choice_as, choice_for, verdict_as, verdict_for};
 
-use choice::Ucid;
+use refusals::Refusal;
 use table::{Client, Table};
 use tunnel_parts::Tunnel;
 
@@ -33,24 +34,21 @@ pub struct Verdict {
 }
 
 // The UCID that a mark and a number give.
-fn ucid_from(known: u8, ucid: u8) -> Ucid
+fn ucid_from(known: u8, ucid: u8) -> Option<u8>
     ensures { result ≡ ucid_of known ucid }
 {
-    if known == 0 {
-        Ucid::Unknown
-    } else {
-        Ucid::Known(ucid)
-    }
+    if known == 0 { None } else { Some(ucid) }
 }
 
 // The numbers of a choice.
-fn choice_from(choice: choice::Choice) -> Choice
-    ensures { result ≡ choice_as choice }
+#[tactic(auto, unfolding(choice::specs::Chose::chose))]
+fn choice_from(choice: Result<usize, Refusal>) -> Choice
+    ensures { result ≡ choice_as (chose choice) }
 {
     match choice {
-        choice::Choice::Chosen(place) => Choice { number: 0, place },
-        choice::Choice::Refused(n) => Choice {
-            number: n as u32,
+        Ok(place) => Choice { number: 0, place },
+        Err(refusal) => Choice {
+            number: refusal.number() as u32,
             place: 0,
         },
     }

@@ -8,7 +8,7 @@ use mathlib.Core.List.{List}
 use Prim.Native.Nat.{ℕ}
 use Rattle.table.specs.declared.Client.{Client}
 use Rattle.table.specs.declared.Table.{Table}
-use Rattle.choice.specs.declared.Ucid.{Ucid}
+use Rattle.choice.specs.Choose.{Ucid}
 use Rattle.payloads.specs.declared.Verdict.{Verdict}
 use Rattle.tunnel.proofs.Headers.{plain_verdict}
 use Rattle.tunnel.proofs.Controls as tunnel

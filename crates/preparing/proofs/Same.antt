@@ -15,11 +15,10 @@ use Rattle.table.specs.declared.Rule.{Rule}
 use Rattle.table.specs.declared.Classifier.{Classifier}
 use Rattle.table.specs.declared.Table.{Table}
 use Rattle.table.specs.Table.{limited_to, classifiers_of, empty_classifier}
-use Rattle.choice.specs.declared.Ucid.{Ucid}
-use Rattle.choice.specs.declared.Choice.{Choice}
-use Rattle.choice.specs.declared.Choice.TheVariants as choice
+use Rattle.choice.specs.Chose as choice
+use Rattle.choice.specs.Chose.{Choice}
 use Rattle.order.specs.Best.{first_place}
-use Rattle.choice.specs.Choose.{choice_of, rule_at}
+use Rattle.choice.specs.Choose.{Ucid, choice_of, rule_at}
 use Rattle.choice.proofs.Laws.{get_or_there}
 use Rattle.choice.proofs.Fits.{choice_of_17}
 use Rattle.matching.specs.declared.Entry.{Entry}

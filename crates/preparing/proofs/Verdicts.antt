@@ -7,9 +7,8 @@ use mathlib.Core.List.{List}
 use Prim.Native.Nat.{ℕ}
 use Rattle.table.specs.declared.Client.{Client}
 use Rattle.table.specs.declared.Table.{Table}
-use Rattle.choice.specs.declared.Ucid.{Ucid}
-use Rattle.choice.specs.declared.Choice.TheVariants as choice
-use Rattle.choice.specs.Choose.{choice_of, rule_at}
+use Rattle.choice.specs.Chose as choice
+use Rattle.choice.specs.Choose.{Ucid, choice_of, rule_at}
 use Rattle.tunnel.specs.Judge.{verdict_of}
 use Rattle.tunnel_parts.specs.declared.Tunnel.{Tunnel}
 use Rattle.preparing.specs.Order.{named_in_order}

@@ -8,10 +8,9 @@ use Rattle.std.specs.Prelude.{ℕ, ◌+◌, ◌-◌, cond, List, [], ◌++◌, m
 use Rattle.table.specs.declared.Client.{Client}
 use Rattle.table.specs.declared.Rule.{Rule}
 use Rattle.table.specs.declared.Table.{Table}
-use Rattle.choice.specs.declared.Ucid.{Ucid}
-use Rattle.choice.specs.declared.Choice.{Choice}
-use Rattle.choice.specs.declared.Choice.TheVariants as choice
-use Rattle.choice.specs.Choose.{choice_of, rule_at}
+use Rattle.choice.specs.Chose as choice
+use Rattle.choice.specs.Chose.{Choice}
+use Rattle.choice.specs.Choose.{Ucid, choice_of, rule_at}
 use Rattle.matching.specs.declared.Entry.{Entry}
 use Rattle.matching.specs.Entry.{entry_of}
 use Rattle.tunnel_parts.specs.declared.Tunnel.{Tunnel}

@@ -17,7 +17,7 @@ use Rattle.table.specs.declared.Rule.{Rule}
 use Rattle.table.specs.declared.Table.{Table}
 use Rattle.table.specs.Table.{rules_of, clients_of, ucids_of, classifiers_of, numbers_of, empty_client, empty_rule, empty_classifier, default_timers}
 use Rattle.numbers.specs.Numbers.{number_at}
-use Rattle.choice.specs.declared.Ucid.TheVariants.{Unknown}
+use Rattle.std.specs.Prelude.{None}
 use Rattle.order.specs.Best.{comes_before, any_of, first_place, is_best, best_place}
 use Rattle.choice.specs.Choose.{is_client, lists_client, lists_ucid, admits_ucid, fits_client, chosen_place, choice_of}
 use Rattle.choice.proofs.Bench.{application42, table_m}
@@ -32,7 +32,7 @@ use Rattle.payloads.specs.Payload.{payload_range, payload_of}
 abbrev pub frame_m : List ℕ
 frame_m = 1 ∷ 0 ∷ 94 ∷ 5 ∷ 5 ∷ 5 ∷ 0 ∷ 0 ∷ 0 ∷ 0 ∷ 0 ∷ 0 ∷ 8 ∷ 0 ∷ 69 ∷ []
 
-pub forwarded : verdict_of table_m application42 Unknown frame_m ≡ Forward 0
+pub forwarded : verdict_of table_m application42 None frame_m ≡ Forward 0
 unfolding verdict_of wrong_length choice_verdict rule_verdict address_at number_at choice_of chosen_place best_place first_place is_best any_of comes_before fits_client lists_client lists_ucid admits_ucid is_client rules_of clients_of ucids_of
 forwarded = refl
 
@@ -40,15 +40,15 @@ pub lent : payload_of (Forward 0) frame_m ≡ 69 ∷ []
 unfolding payload_range
 lent = refl
 
-pub other : verdict_of table_m application42 Unknown (1 ∷ 0 ∷ 94 ∷ 6 ∷ 6 ∷ 6 ∷ replicate 9 0) ≡ Other
+pub other : verdict_of table_m application42 None (1 ∷ 0 ∷ 94 ∷ 6 ∷ 6 ∷ 6 ∷ replicate 9 0) ≡ Other
 unfolding verdict_of wrong_length choice_verdict rule_verdict address_at number_at choice_of chosen_place best_place first_place is_best any_of comes_before fits_client lists_client lists_ucid admits_ucid is_client rules_of clients_of ucids_of
 other = refl
 
-pub short : verdict_of table_m application42 Unknown (take 13 frame_m) ≡ Refused 16
+pub short : verdict_of table_m application42 None (take 13 frame_m) ≡ Refused 16
 unfolding verdict_of wrong_length
 short = refl
 
-pub unfit : verdict_of table_m (record { kind = 3; value = 42 }) Unknown frame_m ≡ Refused 17
+pub unfit : verdict_of table_m (record { kind = 3; value = 42 }) None frame_m ≡ Refused 17
 unfolding verdict_of wrong_length choice_verdict choice_of chosen_place best_place first_place is_best any_of comes_before fits_client lists_client lists_ucid admits_ucid is_client rules_of clients_of ucids_of
 unfit = refl
 
@@ -89,10 +89,10 @@ frame_alert =
     take 14 frame_m
     ++ 0x46 ∷ 0 ∷ 0 ∷ 32 ∷ 0 ∷ 0 ∷ 0 ∷ 0 ∷ 16 ∷ 17 ∷ 0 ∷ 0 ∷ 10 ∷ 0 ∷ 0 ∷ 2 ∷ 0xe0 ∷ 0 ∷ 0 ∷ 1 ∷ 0x94 ∷ 0x04 ∷ 0 ∷ 0 ∷ 0x04 ∷ 0 ∷ 0x13 ∷ 0x88 ∷ 0 ∷ 8 ∷ 0 ∷ 0 ∷ []
 
-pub alert : verdict_of table_port application42 Unknown frame_alert ≡ Forward 10
+pub alert : verdict_of table_port application42 None frame_alert ≡ Forward 10
 unfolding verdict_of wrong_length choice_verdict rule_verdict match_place matches_frame is_ipv4 header_end fits_source fits_port port_within has_port port_at destination_at names_number numbers_of address_at number_at choice_of chosen_place best_place first_place is_best any_of comes_before fits_client lists_client lists_ucid admits_ucid is_client rules_of clients_of ucids_of classifiers_of
 alert = refl
 
-pub early : plain_verdict table_port application42 Unknown frame_alert ≡ Filtered
+pub early : plain_verdict table_port application42 None frame_alert ≡ Filtered
 unfolding choice_by wrong_length fits_source destination_at names_number numbers_of address_at number_at choice_of chosen_place best_place first_place is_best any_of comes_before fits_client lists_client lists_ucid admits_ucid is_client rules_of clients_of ucids_of classifiers_of
 early = refl

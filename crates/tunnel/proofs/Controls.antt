@@ -9,8 +9,8 @@ use Prim.Native.Nat.{ℕ}
 use native.Mathlib.Omega.{arith}
 use Rattle.table.specs.declared.Client.{Client}
 use Rattle.table.specs.declared.Table.{Table}
-use Rattle.choice.specs.declared.Ucid.{Ucid}
-use Rattle.choice.specs.declared.Ucid.TheVariants.{Unknown}
+use Rattle.choice.specs.Choose.{Ucid}
+use Rattle.std.specs.Prelude.{None}
 use Rattle.choice.proofs.Bench.{application42, table_m}
 use Rattle.payloads.specs.declared.Verdict.{Verdict}
 use Rattle.payloads.specs.declared.Verdict.TheVariants.{Refused, Forward, Filtered}
@@ -30,8 +30,8 @@ unlike e = let z : ◌≡◌ {A = ℕ} 0 1 = cc in omega arith
 module _ (judge : Table → Client → Ucid → List ℕ → Verdict) (promise : (t : Table) (c : Client) (u : Ucid) (frame : List ℕ) → judge t c u frame ≡ verdict_of t c u frame) where
   pub no_one_verdict : ((t : Table) (c d : Client) (u : Ucid) (frame : List ℕ) → judge t c u frame ≡ judge t d u frame) → ⊥
   no_one_verdict same =
-      apart (sym forwarded ∙ sym (promise table_m application42 Unknown frame_m) ∙ same table_m application42 stranger Unknown frame_m ∙ promise table_m stranger Unknown frame_m ∙ unfit)
+      apart (sym forwarded ∙ sym (promise table_m application42 None frame_m) ∙ same table_m application42 stranger None frame_m ∙ promise table_m stranger None frame_m ∙ unfit)
 
   pub no_header_of_20 : ((t : Table) (c : Client) (u : Ucid) (frame : List ℕ) → judge t c u frame ≡ plain_verdict t c u frame) → ⊥
   no_header_of_20 plain =
-      unlike (sym alert ∙ sym (promise table_port application42 Unknown frame_alert) ∙ plain table_port application42 Unknown frame_alert ∙ early)
+      unlike (sym alert ∙ sym (promise table_port application42 None frame_alert) ∙ plain table_port application42 None frame_alert ∙ early)

@@ -21,11 +21,10 @@ use Rattle.table.specs.declared.Rule.{Rule}
 use Rattle.table.specs.declared.Classifier.{Classifier}
 use Rattle.table.specs.declared.Table.{Table}
 use Rattle.table.specs.Table.{classifiers_of, empty_classifier}
-use Rattle.choice.specs.declared.Ucid.{Ucid}
-use Rattle.choice.specs.declared.Choice.{Choice}
-use Rattle.choice.specs.declared.Choice.TheVariants as choice
+use Rattle.choice.specs.Chose as choice
+use Rattle.choice.specs.Chose.{Choice}
 use Rattle.order.specs.Best.{best_place}
-use Rattle.choice.specs.Choose.{choice_of, rule_at}
+use Rattle.choice.specs.Choose.{Ucid, choice_of, rule_at}
 use Rattle.payloads.specs.declared.Verdict.{Verdict}
 use Rattle.payloads.specs.declared.Verdict.TheVariants.{Refused, Other, Forward, Filtered}
 use Rattle.packets.specs.Packets.{wrong_length, address_at, header_words, header_end}

@@ -17,10 +17,9 @@ use Rattle.table.specs.declared.Rule.{Rule}
 use Rattle.table.specs.declared.Classifier.{Classifier}
 use Rattle.table.specs.declared.Table.{Table}
 use Rattle.table.specs.Table.{rules_of, classifiers_of}
-use Rattle.choice.specs.declared.Ucid.{Ucid}
-use Rattle.choice.specs.declared.Choice.{Choice}
-use Rattle.choice.specs.declared.Choice.TheVariants as choice
-use Rattle.choice.specs.Choose.{fits_client, choice_of, rule_at}
+use Rattle.choice.specs.Chose as choice
+use Rattle.choice.specs.Chose.{Choice}
+use Rattle.choice.specs.Choose.{Ucid, fits_client, choice_of, rule_at}
 use Rattle.choice.proofs.Fits.{choice_of_none}
 use Rattle.order.proofs.Places.{best_place-none}
 use Rattle.payloads.specs.declared.Verdict.{Verdict}

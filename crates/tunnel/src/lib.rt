@@ -12,7 +12,7 @@ ghost use Rattle.matching.specs.Entry.{entry_of, fits_packet};
 ghost use Rattle.payloads.specs.Judged.{judged};
 ghost use Rattle.tunnel.specs.Judge.{match_place, rule_verdict, verdict_of};
 
-use choice::{Choice, Ucid, choose_rule, rule_at};
+use choice::{choose_rule, rule_at};
 use listed::names_number;
 use matching::{entry_of, fits_packet};
 use numbers::number6;
@@ -96,15 +96,15 @@ fn judge_rule(table: Table, rule: Rule, frame: &[u8]) -> Verdict
 }
 
 // The verdict on a frame for a client: refusal 16, then 17, then the chosen rule's.
-pub fn judge_frame(table: Table, client: Client, ucid: Ucid, frame: &[u8]) -> Verdict
+pub fn judge_frame(table: Table, client: Client, ucid: Option<u8>, frame: &[u8]) -> Verdict
     ensures { judged result ≡ judged (verdict_of table client ucid frame.now) }
 {
     if wrong_length(frame) {
         return Verdict::Refused(16);
     }
     match choose_rule(table, client, ucid) {
-        Choice::Refused(n) => Verdict::Refused(n),
-        Choice::Chosen(k) => {
+        Err(refusal) => Verdict::Refused(refusal.number()),
+        Ok(k) => {
             let rule = rule_at(table, k);
             judge_rule(table, rule, frame)
         }

@@ -4,23 +4,22 @@ use borrow.Author.Tests.{eq-eqb, ne_eqb}
 use mathlib.Core.Path.{◌≡◌, sym}
 use mathlib.Core.Bool.{true}
 use Rattle.table.specs.declared.Rule.{Rule}
-use Rattle.choice.specs.declared.Ucid.{Ucid}
-use Rattle.choice.specs.declared.Ucid.TheVariants.{Unknown, Known}
-use Rattle.choice.specs.Choose.{admits_ucid}
+use Rattle.std.specs.Prelude.{None, Some}
+use Rattle.choice.specs.Choose.{Ucid, admits_ucid}
 use Rattle.choice.proofs.admits_ucid.Goals as goal
 
 unlisted : (rule : Rule) (u : Ucid) → rule.ucidcount ≡ 0 → admits_ucid rule u ≡ true
 unfolding admits_ucid
-unlisted rule Unknown e = eq-eqb _ _ e
-unlisted rule (Known n) e = simp (eq-eqb _ _ e)
+unlisted rule None e = eq-eqb _ _ e
+unlisted rule (Some n) e = simp (eq-eqb _ _ e)
 
 pub returns-then-rule-eq0 : goal.returns-then-rule-eq0
 returns-then-rule-eq0 c = sym (unlisted _ _ c.if-rule-eq0.true)
 
-pub returns-in-Unknown : goal.returns-in-Unknown
+pub returns-in-None : goal.returns-in-None
 unfolding admits_ucid
-returns-in-Unknown c = rw (c.in-Unknown.is, ne_eqb _ _ c.if-rule-eq0.false)
+returns-in-None c = rw (c.in-None.is, ne_eqb _ _ c.if-rule-eq0.false)
 
-pub returns-in-Known : goal.returns-in-Known
+pub returns-in-Some : goal.returns-in-Some
 unfolding admits_ucid
-returns-in-Known c = simp (c.in-Known.is, ne_eqb _ _ c.if-rule-eq0.false, c.lists_ucid.ensures)
+returns-in-Some c = simp (c.in-Some.is, ne_eqb _ _ c.if-rule-eq0.false, c.lists_ucid.ensures)

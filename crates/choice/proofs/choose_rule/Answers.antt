@@ -2,10 +2,11 @@
 -- What the whole walk finds is the choice, by Walk.
 -- Trusts: nothing.
 use borrow.Author.Rules.{rules}
-use mathlib.Core.Path.{sym, ap, ◌∙◌}
+use mathlib.Core.Path.{sym, ◌∙◌}
 use native.Mathlib.Omega.{arith}
 use Rattle.table.specs.Table.{rules_of}
 use Rattle.order.proofs.Scan.{scan_more, scan_end}
+use Rattle.refusals.specs.Refusals.{number_of}
 use Rattle.choice.specs.Chose.{chose}
 use Rattle.choice.proofs.Walk.{refuses, chooses, stays}
 use Rattle.choice.proofs.choose_rule.Goals as goal
@@ -23,15 +24,15 @@ loop-i-preserved c =
 
 -- behind the loop the whole walk is done
 pub returns-then-place-eq32 : goal.returns-then-place-eq32
-unfolding rules_of
+unfolding rules_of chose number_of
 returns-then-place-eq32 c =
     let inv = c.loop-i.invariant in
     let done = sym (scan_end _ _ _ _ _ _ _ c.loop-i-test.false) ∙ inv.3 in
-    ap chose (refuses _ _ _ inv.2 _ (rw c.limited-n.ensures at done) c.if-place-eq32.true)
+    refuses _ _ _ inv.2 _ (rw c.limited-n.ensures at done) c.if-place-eq32.true
 
 pub returns : goal.returns
-unfolding rules_of
+unfolding rules_of chose
 returns c =
     let inv = c.loop-i.invariant in
     let done = sym (scan_end _ _ _ _ _ _ _ c.loop-i-test.false) ∙ inv.3 in
-    ap chose (chooses _ _ _ inv.2 _ (rw c.limited-n.ensures at done) c.if-place-eq32.false)
+    chooses _ _ _ inv.2 _ (rw c.limited-n.ensures at done) c.if-place-eq32.false
