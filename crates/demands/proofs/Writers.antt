@@ -32,7 +32,7 @@ use Rattle.writing_entries.proofs.is_sound_classifier.Reads as is_sound_classifi
 use Rattle.writing_entries.proofs.is_unused_classifier.Reads as is_unused_classifier_contract
 use Rattle.writing_check.specs.Producible.{producible}
 use Rattle.writing_check.proofs.is_producible.Reads as is_producible_contract
-use Rattle.writing_table.specs.Writing.{Writing, writing}
+use Rattle.writing_table.specs.Writing.{Writing, as_written, writing}
 use Rattle.writing_table.proofs.write_table.Reads as write_table_contract
 
 -- ---- the test of 19: the answer
@@ -130,8 +130,8 @@ lay_all_gives κs a x s h = h
 pub lay_all_one : (κs : Lfts 2) → One (λ x s. s.1.1.1.1.0.now) (lay_all_contract.Post κs)
 lay_all_one κs = only (lay_all_gives κs)
 
-pub write_table_gives : (κs : Lfts 1) → Gives {L = Writing} (λ x s. record { answer = x; out = s.1.1.0.now }) (write_table_contract.Post κs) (λ a. writing a.0 a.1.0 a.1.1.0.now)
+pub write_table_gives : (κs : Lfts 1) → Gives {L = Writing} (λ x s. record { answer = as_written x; out = s.1.1.0.now }) (write_table_contract.Post κs) (λ a. writing a.0 a.1.0 a.1.1.0.now)
 write_table_gives κs a x s h = h
 
-pub write_table_one : (κs : Lfts 1) → One {L = Writing} (λ x s. record { answer = x; out = s.1.1.0.now }) (write_table_contract.Post κs)
+pub write_table_one : (κs : Lfts 1) → One {L = Writing} (λ x s. record { answer = as_written x; out = s.1.1.0.now }) (write_table_contract.Post κs)
 write_table_one κs = only (write_table_gives κs)

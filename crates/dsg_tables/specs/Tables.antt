@@ -17,8 +17,7 @@ use Rattle.reader.specs.Read.{number_of, offset_of, read_table}
 use Rattle.listing.specs.Text.{table_text}
 use Rattle.notices.specs.Listing.{Written as WrittenText, text, refused, Listing, listing}
 use Rattle.bodies.specs.Body.{body_text}
-use Rattle.writing_table.specs.declared.Written.{Written as WrittenBodies}
-use Rattle.writing_table.specs.Writing.{Writing, writing}
+use Rattle.writing_table.specs.Writing.{Written as WrittenBodies, Writing, writing}
 use Rattle.dsg_tables.specs.declared.ReadAnswer.{ReadAnswer}
 use Rattle.dsg_tables.specs.declared.ReadStepped.{ReadStepped}
 use Rattle.dsg_tables.specs.declared.Listed.{Listed}

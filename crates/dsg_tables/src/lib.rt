@@ -106,11 +106,19 @@ pub struct Written {
 pub fn write_value(table: Table, count: u8, out: &mut [u8]) -> Written
     ensures { record { answer = result; out = out.new } ≡ write_after table count out.old }
 {
-    let written = writing_table::write_table(count, table, out);
-    let lengths = written.lengths;
-    Written {
-        number: written.refused as u32,
-        pieces: written.number as u32,
-        lengths,
+    match writing_table::write_table(count, table, out) {
+        Ok(written) => {
+            let lengths = written.lengths;
+            Written {
+                number: 0,
+                pieces: written.number as u32,
+                lengths,
+            }
+        }
+        Err(refusal) => Written {
+            number: refusal.number() as u32,
+            pieces: 0,
+            lengths: [0u16; 16],
+        },
     }
 }

@@ -2,9 +2,10 @@
 --
 --   refusal_from n   the refusal of a number; of a number that is none's, the last
 --   number_of-only   two refusals of one number are the same
+--   number_of-some   no refusal has the number 0
 --
 -- Trusts: nothing.
-use Rattle.std.proofs.Common.{◌≡◌, refl, ap, sym, ◌∙◌, ℕ, cond, eqb}
+use Rattle.std.proofs.Common.{◌≡◌, refl, ap, sym, ◌∙◌, ℕ, cond, eqb, arith}
 use Rattle.refusals.specs.Refusals.{number_of}
 use Rattle.refusals.specs.declared.Refusal.{Refusal}
 use Rattle.refusals.specs.declared.Refusal.TheVariants.{ShortBuffer, ShortBody, TooLong, PieceCount, PieceNumber, CutHead, Length255, PastEnd, SecondCopy, WrongLength, BadValue, Full, MissingElement, NumberTaken, Unanswered, FrameLength, NoRule, ClockBack, CannotProduce, ShortOutput, BadCut, ShortListing}
@@ -61,3 +62,9 @@ refusal_from-back ShortListing = refl
 
 pub number_of-only : (r q : Refusal) → number_of r ≡ number_of q → r ≡ q
 number_of-only r q e = sym (refusal_from-back r) ∙ ap refusal_from e ∙ refusal_from-back q
+
+pub number_of-some : (r : Refusal) → number_of r ≡ 0 → ⊥
+unfolding number_of refusal_from
+number_of-some r e =
+    let last : r ≡ ShortListing = sym (refusal_from-back r) ∙ ap refusal_from e in
+    omega (arith, ap number_of last)

@@ -1,21 +1,16 @@
 // A table written as the bodies of a DCD in a lent buffer (document 02, Req 01).
 //
 // One public function, `write_table`. It takes any change count, any table and any buffer. A table that reading cannot produce is refused by
-// REFUSED_CANNOT_PRODUCE, then a buffer that is too short for the bodies by REFUSED_SHORT_OUTPUT; after either the buffer is as it was. Else
+// `Refusal::CannotProduce`, then a buffer that is too short for the bodies by `Refusal::ShortOutput`; after either the buffer is as it was. Else
 // it writes just the bodies, and answers their number and their lengths.
 #![tactic(auto)]
 
-ghost use Rattle.std.specs.Prelude.{◌≡◌, map, ℕ, ◌+◌, ◌≤◌, ◌<◌, get_or, take, replicate};
+ghost use Rattle.std.specs.Prelude.{◌≡◌, map, ℕ, ◌+◌, ◌≤◌, ◌<◌, get_or, take};
 ghost use Rattle.table.specs.Table.{padded};
-ghost use Rattle.writing_table.specs.Writing.{writing};
+ghost use Rattle.writing_table.specs.Writing.{as_written, writing};
 
+use refusals::Refusal;
 use table::Table;
-
-// No message reads to the table.
-pub const REFUSED_CANNOT_PRODUCE: u8 = 19;
-
-// The bodies do not fit the buffer.
-pub const REFUSED_SHORT_OUTPUT: u8 = 20;
 
 // The bytes from one body's place to the next.
 const STEP_BYTES: usize = 1500;
@@ -23,24 +18,11 @@ const STEP_BYTES: usize = 1500;
 // The bytes of a body ahead of its piece.
 const HEAD_BYTES: u16 = 3;
 
-// The answer: a refusal's number or 0, how many bodies there are, and their lengths, 0 behind the last.
-#[repr(C)]
+// What was written: how many bodies there are, and their lengths, 0 behind the last.
 #[derive(Clone, Copy)]
 pub struct Written {
-    pub refused: u8,
     pub number: u8,
     pub lengths: [u16; 16],
-}
-
-// A refusal.
-fn refuse(reason: u8) -> Written
-    ensures { result ≡ record { refused = reason; number = 0; lengths = replicate 16 0 } }
-{
-    Written {
-        refused: reason,
-        number: 0,
-        lengths: [0u16; 16],
-    }
 }
 
 // The lengths of the bodies: each of the first pieces with its head, 0 behind them.
@@ -58,11 +40,11 @@ fn body_lengths(number: usize, pieces: [u16; 16]) -> [u16; 16]
 }
 
 // The bodies of a table under a change count. The message stands in an array of its own until its bodies are known to fit.
-pub fn write_table(count: u8, table: Table, out: &mut [u8]) -> Written
-    ensures { record { answer = result; out = out.new } ≡ writing count table out.old }
+pub fn write_table(count: u8, table: Table, out: &mut [u8]) -> Result<Written, Refusal>
+    ensures { record { answer = as_written result; out = out.new } ≡ writing count table out.old }
 {
     if !writing_check::is_producible(table) {
-        return refuse(REFUSED_CANNOT_PRODUCE);
+        return Err(Refusal::CannotProduce);
     }
     let mut held = [0u8; 5632];
     let message = writing_message::put_message(table, &mut held);
@@ -72,16 +54,12 @@ pub fn write_table(count: u8, table: Table, out: &mut [u8]) -> Written
     let last = cut.now;
     let at = closed as usize;
     if out.len() < at * STEP_BYTES + (HEAD_BYTES as usize) + (last as usize) {
-        return refuse(REFUSED_SHORT_OUTPUT);
+        return Err(Refusal::ShortOutput);
     }
     let number = closed + 1;
     let mut pieces = cut.lengths;
     pieces[at] = last;
     writing_bodies::lay_all(count, number, pieces, &held[..n], out);
     let lengths = body_lengths(at + 1, pieces);
-    Written {
-        refused: 0,
-        number,
-        lengths,
-    }
+    Ok(Written { number, lengths })
 }

@@ -3,7 +3,6 @@
 use mathlib.Core.Path.{ap}
 use Rattle.reader.proofs.Shown.{shown_only}
 use Rattle.dsg_tables.specs.Tables.{reading_as}
-use borrow.Author.Rules.{rules}
 use Rattle.dsg_tables.proofs.read_value.Goals as goal
 
 pub returns : goal.returns

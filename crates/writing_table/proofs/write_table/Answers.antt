@@ -2,11 +2,11 @@
 -- the need; only then the bodies are laid.
 -- Trusts: nothing.
 use Prim.Native.Nat.{ℕ}
-use mathlib.Core.Path.{◌≡◌, sym, ap, ◌∙◌}
+use mathlib.Core.Path.{◌≡◌, sym, ◌∙◌}
 use native.Mathlib.Omega.{arith}
 use lib.ListN.{length, replicate, length-replicate}
 use lib.Seq.{length-take-le}
-use Rattle.writing_table.specs.declared.Written.{Written}
+use Rattle.refusals.specs.Refusals.{number_of}
 use Rattle.writing_table.proofs.Laws.{writing_cannot, writing-short, writing-bodies}
 use Rattle.writing_table.proofs.Parts.{closed_few, need_is, pieces_in_lem, bodies_are, cut_is, message_in_lem, bytes_are}
 use Rattle.writing_table.proofs.write_table.Goals as goal
@@ -17,14 +17,15 @@ size = length-replicate {A = ℕ} 5632 0
 
 -- 19
 pub returns-then-not-is_producible : goal.returns-then-not-is_producible
+unfolding number_of
 returns-then-not-is_producible c =
-    ap (λ (w : Written). record { answer = w; out = c.args.out.now }) c.refuse.ensures ∙ writing_cannot _ _ _ (sym c.is_producible.ensures ∙ c.if-not-is_producible.true)
+    writing_cannot _ _ _ (sym c.is_producible.ensures ∙ c.if-not-is_producible.true)
 
 -- 20
 pub returns-then-out-at : goal.returns-then-out-at
+unfolding number_of
 returns-then-out-at c =
-    ap (λ (w : Written). record { answer = w; out = c.args.out.now }) c.refuse-then-out-at.ensures
-    ∙ writing-short _ _ _ (sym c.is_producible.ensures ∙ c.if-not-is_producible.false) (omega (arith, need_is _ (cut_is _ _ c.put_message-message.ensures), c.if-out-at.true))
+    writing-short _ _ _ (sym c.is_producible.ensures ∙ c.if-not-is_producible.false) (omega (arith, need_is _ (cut_is _ _ c.put_message-message.ensures), c.if-out-at.true))
 
 pub overflow_add-number : goal.overflow_add-number
 overflow_add-number c = omega (arith, closed_few _ (cut_is _ _ c.put_message-message.ensures))
