@@ -9,8 +9,8 @@ ghost use Rattle.receiver.specs.Receive.{told};
 ghost use Rattle.notices.specs.Listing.{written, listing};
 ghost use Rattle.bodies.specs.Body.{zeros, received, report_text, body_text};
 
-use notices::Listed;
 use receiver::{Received, Report};
+use refusals::Refusal;
 use table::Table;
 
 // A buffer of 24,000 bytes, all 0.
@@ -24,10 +24,7 @@ fn zero_buffer() -> [u8; 24000]
 fn count_of(body: &[u8]) -> u8
     ensures { result ≡ get_or body.now 0 0 }
 {
-    if 0 < body.len() {
-        return body[0];
-    }
-    0
+    body.first().copied().unwrap_or(0)
 }
 
 // What a body leaves where nothing is collected.
@@ -42,7 +39,7 @@ fn receive_alone(body: &[u8]) -> Received
 }
 
 // The listing of a report.
-fn list_report(report: Report, count: u8, table: Table, out: &mut [u8]) -> Listed
+fn list_report(report: Report, count: u8, table: Table, out: &mut [u8]) -> Result<usize, Refusal>
     ensures { record { answer = written result; out = out.new } ≡ listing (report_text (told report) count table) out.old }
 {
     match report {
@@ -56,7 +53,7 @@ fn list_report(report: Report, count: u8, table: Table, out: &mut [u8]) -> Liste
 }
 
 // The listing of a body.
-pub fn list_body(body: &[u8], out: &mut [u8]) -> Listed
+pub fn list_body(body: &[u8], out: &mut [u8]) -> Result<usize, Refusal>
     ensures { record { answer = written result; out = out.new } ≡ listing (body_text body.now) out.old }
 {
     let left = receive_alone(body);

@@ -9,6 +9,7 @@ ghost use Rattle.std.specs.Prelude.{◌≡◌};
 ghost use Rattle.notices.specs.Listing.{written};
 ghost use Rattle.dsg_tables.specs.Tables.{read_answer, read_stepped, listed_as, list_after, body_after, write_after};
 
+use refusals::Refusal;
 use table::Table;
 
 // What a message is answered: number 0, or the refusal and the offset that it concerns.
@@ -65,13 +66,13 @@ pub struct Listed {
 }
 
 // The numbers of a listing's answer.
-fn listed_from(listed: notices::Listed) -> Listed
+fn listed_from(listed: Result<usize, Refusal>) -> Listed
     ensures { result ≡ listed_as (written listed) }
 {
     match listed {
-        notices::Listed::Text(length) => Listed { number: 0, length },
-        notices::Listed::Refused(n) => Listed {
-            number: n as u32,
+        Ok(length) => Listed { number: 0, length },
+        Err(refusal) => Listed {
+            number: u32::from(refusal.number()),
             length: 0,
         },
     }

@@ -1,7 +1,7 @@
 // A table as text in a lent buffer (document 01, "Listing").
 //
 // One public function, `list_table`. It takes any table, any change count
-// and any buffer: one under LISTING_BYTES is refused by REFUSED_SHORT_LISTING and stays as it was. It writes the text at the
+// and any buffer: one under LISTING_BYTES is refused by `Refusal::ShortListing` and stays as it was. It writes the text at the
 // buffer's start, leaves every byte behind it as it was, and answers the text's length.
 #![tactic(auto)]
 
@@ -12,21 +12,21 @@ ghost use Rattle.notices.specs.Listing.{written, listing};
 ghost use Rattle.listing.specs.Text.{table_text};
 
 use lines::{put_channels, put_classifiers, put_rules, put_sizes, put_timers};
-use notices::{LISTING_BYTES, Listed, REFUSED_SHORT_LISTING};
+use notices::LISTING_BYTES;
+use refusals::Refusal;
 use table::Table;
 
 // The listing of a table and the change count that it came under.
-pub fn list_table(count: u8, table: Table, out: &mut [u8]) -> Listed
+pub fn list_table(count: u8, table: Table, out: &mut [u8]) -> Result<usize, Refusal>
     ensures { record { answer = written result; out = out.new } ≡ listing (table_text count table) out.old }
 {
     if out.len() < LISTING_BYTES {
-        return Listed::Refused(REFUSED_SHORT_LISTING);
+        return Err(Refusal::ShortListing);
     }
     let timers = table.timers;
     let a = put_sizes(count, table, out, 0);
     let b = put_rules(table, out, a);
     let c = put_classifiers(table, out, b);
     let d = put_channels(table, out, c);
-    let e = put_timers(timers, out, d);
-    Listed::Text(e)
+    Ok(put_timers(timers, out, d))
 }

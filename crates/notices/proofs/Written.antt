@@ -2,19 +2,19 @@
 --
 --   written_only   two answers that are told alike are the same
 -- Trusts: nothing.
-use mathlib.Core.Path.{◌≡◌, refl, sym, ap, ◌∙◌}
-use Rattle.notices.specs.declared.Listed.{Listed}
-use Rattle.notices.specs.declared.Listed.TheVariants.{Text, Refused}
+use Rattle.std.proofs.Common.{◌≡◌, refl, sym, ap, ◌∙◌, ℕ, Result, Ok, Err}
+use Rattle.refusals.specs.declared.Refusal.{Refusal}
+use Rattle.refusals.proofs.Only.{refusal_from, refusal_from-back}
 use Rattle.notices.specs.Listing.{Written, text, refused, written}
 
-listed_as : Written → Listed
-listed_as (text n) = Text n
-listed_as (refused n) = Refused n
+answer_from : Written → Result ℕ Refusal
+answer_from (text n) = Ok n
+answer_from (refused n) = Err (refusal_from n)
 
-listed_as_back : (l : Listed) → listed_as (written l) ≡ l
-unfolding listed_as
-listed_as_back (Text n) = refl
-listed_as_back (Refused n) = refl
+answer_from-back : (a : Result ℕ Refusal) → answer_from (written a) ≡ a
+unfolding answer_from
+answer_from-back (Ok n) = refl
+answer_from-back (Err r) = ap (λ (q : Refusal). Err q) (refusal_from-back r)
 
-pub written_only : (l k : Listed) → written l ≡ written k → l ≡ k
-written_only l k e = sym (listed_as_back l) ∙ ap listed_as e ∙ listed_as_back k
+pub written_only : (a b : Result ℕ Refusal) → written a ≡ written b → a ≡ b
+written_only a b e = sym (answer_from-back a) ∙ ap answer_from e ∙ answer_from-back b

@@ -7,17 +7,17 @@
 -- 3,755 bytes are what the longest listing of any table takes (proofs/Longest.antt of listing). 100 is this crate's own number: the paper's end at 18,
 -- and its requests take 19 to 30.
 -- Trusts: nothing.
-use Rattle.std.specs.Prelude.{ℕ, cond, List, ◌++◌, length, drop, ltb}
-use Rattle.notices.specs.declared.Listed.{Listed}
-use Rattle.notices.specs.declared.Listed.TheVariants.{Text, Refused}
+use Rattle.std.specs.Prelude.{ℕ, cond, List, ◌++◌, length, drop, ltb, Result, Ok, Err}
+use Rattle.refusals.specs.declared.Refusal.{Refusal}
+use Rattle.refusals.specs.Refusals.{number_of}
 
 pub data Written : Type 0 where
   text : ℕ → Written
   refused : ℕ → Written
 
-abbrev pub written : Listed → Written
-written (Text n) = text n
-written (Refused n) = refused n
+abbrev pub written : Result ℕ Refusal → Written
+written (Ok n) = text n
+written (Err r) = refused (number_of r)
 
 -- the answer and the buffer after the call
 pub record Listing : Type 0 where

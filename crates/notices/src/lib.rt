@@ -1,7 +1,7 @@
 // A refusal or an unfinished collection as text in a lent buffer (document 01, "Listing").
 //
 // Two public functions, `list_refusal` and `list_waiting`. They take any number
-// and any buffer: one under LISTING_BYTES is refused by REFUSED_SHORT_LISTING and stays as it was. They write the text at the
+// and any buffer: one under LISTING_BYTES is refused by `Refusal::ShortListing` and stays as it was. They write the text at the
 // buffer's start, leave every byte behind it as it was, and answer the text's length.
 #![tactic(auto)]
 
@@ -11,20 +11,10 @@ ghost use Rattle.texts.specs.Writing.{Fits, Wrote, Lined};
 ghost use Rattle.notices.specs.Text.{refusal_text, waiting_text};
 ghost use Rattle.notices.specs.Listing.{written, listing};
 
+use refusals::Refusal;
+
 // The least buffer that is taken: the longest listing of any table (crate listing).
 pub const LISTING_BYTES: usize = 3755;
-
-// Refuses a shorter buffer. The number is this crate's own: the paper's end at 18.
-pub const REFUSED_SHORT_LISTING: u8 = 100;
-
-// What a call that lists answers.
-#[derive(Clone, Copy)]
-pub enum Listed {
-    // The listing stands at the start of the buffer and has this many bytes.
-    Text(usize),
-    // The buffer was too short.
-    Refused(u8),
-}
 
 // Writes a fixed word and a number behind it, and ends the line.
 fn put_last(word: &[u8], n: u64, out: &mut [u8], at: usize) -> usize
@@ -54,23 +44,21 @@ fn put_waiting(slots: u8, out: &mut [u8], at: usize) -> usize
 }
 
 // The listing of a refusal: its number and offset.
-pub fn list_refusal(number: u8, offset: usize, out: &mut [u8]) -> Listed
+pub fn list_refusal(number: u8, offset: usize, out: &mut [u8]) -> Result<usize, Refusal>
     ensures { record { answer = written result; out = out.new } ≡ listing (refusal_text number offset) out.old }
 {
     if out.len() < LISTING_BYTES {
-        return Listed::Refused(REFUSED_SHORT_LISTING);
+        return Err(Refusal::ShortListing);
     }
-    let end = put_refusal(number, offset, out, 0);
-    Listed::Text(end)
+    Ok(put_refusal(number, offset, out, 0))
 }
 
 // The listing of a collection that waits for so many slots.
-pub fn list_waiting(slots: u8, out: &mut [u8]) -> Listed
+pub fn list_waiting(slots: u8, out: &mut [u8]) -> Result<usize, Refusal>
     ensures { record { answer = written result; out = out.new } ≡ listing (waiting_text slots) out.old }
 {
     if out.len() < LISTING_BYTES {
-        return Listed::Refused(REFUSED_SHORT_LISTING);
+        return Err(Refusal::ShortListing);
     }
-    let end = put_waiting(slots, out, 0);
-    Listed::Text(end)
+    Ok(put_waiting(slots, out, 0))
 }

@@ -1,14 +1,7 @@
 -- `dcdlist::read_input` ends, and what it reads lies in the buffer. The bytes read so far are no more than the buffer has; what is
 -- left of it falls, since a read that gives nothing ends the loop.
 -- Trusts: nothing.
-use Prim.Native.Nat.{ℕ, ◌+◌, ◌-◌, ◌≤◌}
-use mathlib.Core.Path.{◌≡◌, refl, sym, subst, ◌∙◌}
-use native.Mathlib.Omega.{arith}
-use lib.ListN.{length, drop, length-take, length-drop}
-use borrow.Author.Rules.{rules}
-use borrow.Rule.Slice.PartMut.{mid_of, put_mid, same_len_mid}
-use Rattle.dcdlist.specs.declared.Input.{Input}
-use Rattle.dcdlist.specs.Input.{bytes_read}
+use Rattle.std.proofs.Common.{◌≡◌, ◌-◌, ◌≤◌, length}
 use Rattle.dcdlist.proofs.read_input.Given as goal
 
 abbrev pub invariant-loop-n : goal.invariant-loop-n

@@ -1,13 +1,15 @@
 -- `notices::list_waiting` gives `listing` of `waiting_text`: its one line is written from 0 on.
 -- Trusts: nothing.
 use lib.Dec.{lit≤}
+use Rattle.refusals.specs.Refusals.{number_of}
 use Rattle.notices.proofs.Listings.{listing-refused, listing-text}
 use Rattle.notices.proofs.list_waiting.Goals as goal
 
 -- the buffer is too short
 pub returns-then-out-lt-LISTING_BYTES : goal.returns-then-out-lt-LISTING_BYTES
+unfolding number_of
 returns-then-out-lt-LISTING_BYTES c = listing-refused _ _ c.if-out-lt-LISTING_BYTES.true
 
 -- the text
 pub returns : goal.returns
-returns c = listing-text c.if-out-lt-LISTING_BYTES.false (lit≤ tt) c.put_waiting-end.ensures
+returns c = listing-text c.if-out-lt-LISTING_BYTES.false (lit≤ tt) c.put_waiting.ensures
