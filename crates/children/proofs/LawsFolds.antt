@@ -8,28 +8,25 @@ use Prim.Native.Nat.{ℕ, ◌+◌}
 use mathlib.Core.Path.{◌≡◌, refl}
 use mathlib.Core.List.{List}
 use lib.ListN.{length}
-use Rattle.elements.specs.Elements.{head_at}
-use Rattle.elements.specs.Stood.{stood}
-use Rattle.elements.specs.declared.Head.{Head}
-use Rattle.elements.specs.declared.Head.TheVariants.{Value}
+use Rattle.elements.specs.Elements.{Head, Value, head_at}
 use Rattle.children.specs.Rows.{Row, done, bad, item, row_in, row_inside, row_fold}
 use Rattle.children.proofs.Laws.{row_in_stop, row_in_item, row_inside-done, row_inside-row}
 
 module _ {A : Type 0} (step : ℕ → ℕ → A → A) (msg : List ℕ) (at end : ℕ) (so : A) where
   -- no element stands there
-  pub fold_stop : {h : Head} → stood h ≡ stood (head_at msg at end) → ((len : ℕ) → h ≡ Value len → ⊥) → so ≡ row_fold step (row_in msg at end) so
+  pub fold_stop : {h : Head} → h ≡ head_at msg at end → ((len : ℕ) → h ≡ Value len → ⊥) → so ≡ row_fold step (row_in msg at end) so
   fold_stop e never = row_in_stop (λ row. so ≡ row_fold step row so) msg at end e never refl (λ n. refl)
 
-  pub fold_item : {h : Head} {len : ℕ} {now : A} → stood h ≡ stood (head_at msg at end) → h ≡ Value len → now ≡ step at len so
+  pub fold_item : {h : Head} {len : ℕ} {now : A} → h ≡ head_at msg at end → h ≡ Value len → now ≡ step at len so
       → row_fold step (row_in msg (at + 2 + len) end) now ≡ row_fold step (row_in msg at end) so
   fold_item e v s = simp (s, row_in_item msg at end e v)
 
 -- a fold over the row in an element's value
 module _ {A : Type 0} (step : ℕ → ℕ → A → A) (msg : List ℕ) (at : ℕ) (so : A) where
-  pub inside_stop : {h : Head} → stood h ≡ stood (head_at msg at (length msg)) → ((len : ℕ) → h ≡ Value len → ⊥) → so ≡ row_fold step (row_inside msg at) so
+  pub inside_stop : {h : Head} → h ≡ head_at msg at (length msg) → ((len : ℕ) → h ≡ Value len → ⊥) → so ≡ row_fold step (row_inside msg at) so
   inside_stop e never = simp (row_inside-done msg at e never)
 
-  pub inside-item : {h : Head} {len : ℕ} → stood h ≡ stood (head_at msg at (length msg)) → h ≡ Value len → row_fold step (row_in msg (at + 2) (at + 2 + len)) so ≡ row_fold step (row_inside msg at) so
+  pub inside-item : {h : Head} {len : ℕ} → h ≡ head_at msg at (length msg) → h ≡ Value len → row_fold step (row_in msg (at + 2) (at + 2 + len)) so ≡ row_fold step (row_inside msg at) so
   inside-item e v = simp (row_inside-row msg at e v)
 
 module _ {A : Type 0} (P : A → Type 0) (step : ℕ → ℕ → A → A) (keep : (at len : ℕ) (so : A) → P so → P (step at len so)) where

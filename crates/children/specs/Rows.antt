@@ -12,9 +12,7 @@
 -- Tested by: proofs/Bench.antt of the crate reader.
 -- Trusts: nothing.
 use Rattle.std.specs.Prelude.{ℕ, zero, suc, ◌+◌, ◌-◌, cond, List, [], ◌∷◌, length, get_or, eqb}
-use Rattle.elements.specs.Elements.{head_at}
-use Rattle.elements.specs.declared.Head.{Head}
-use Rattle.elements.specs.declared.Head.TheVariants.{End, Refused, Value}
+use Rattle.elements.specs.Elements.{Head, End, Refused, Value, head_at}
 
 -- `bad at n`: the head at `at` earns refusal n. `item at len rest`: the element whose type byte is at `at`, with a value of len bytes.
 pub data Row : Type 0 where

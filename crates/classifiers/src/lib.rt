@@ -11,7 +11,6 @@ ghost use Rattle.table.specs.Table.{empty_classifier};
 ghost use Rattle.children.specs.Rows.{row_in, row_fold};
 ghost use Rattle.classifiers.specs.Classifiers.{with_part_child, with_part, with_classifier_child, classifier_at};
 
-use elements::Head;
 use table::Classifier;
 
 // The classifier with the child of 23.9 at `at` taken up.
@@ -53,7 +52,7 @@ fn with_part(message: &[u8], from: usize, end: usize, given: Classifier) -> Clas
     let mut classifier = given;
     let mut at = from;
     loop {
-        let Head::Value(len) = elements::read_head(message, at, end) else {
+        let Some(len) = elements::value_at(message, at, end) else {
             return classifier;
         };
         classifier = with_part_child(message, at, len, classifier);
@@ -68,7 +67,7 @@ fn classifier_in(message: &[u8], from: usize, end: usize) -> Classifier
     let mut classifier = table::empty_classifier();
     let mut at = from;
     loop {
-        let Head::Value(len) = elements::read_head(message, at, end) else {
+        let Some(len) = elements::value_at(message, at, end) else {
             return classifier;
         };
         let kind = message[at];
@@ -93,7 +92,7 @@ fn classifier_in(message: &[u8], from: usize, end: usize) -> Classifier
 pub fn classifier_at(message: &[u8], at: usize) -> Classifier
     ensures { result ≡ classifier_at message.now at }
 {
-    let Head::Value(len) = elements::read_head(message, at, message.len()) else {
+    let Some(len) = elements::value_at(message, at, message.len()) else {
         return table::empty_classifier();
     };
     let value = at + 2;

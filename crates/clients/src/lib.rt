@@ -8,7 +8,6 @@
 ghost use Rattle.std.specs.Prelude.{◌≡◌, ◌+◌, ◌≤◌, length};
 ghost use Rattle.clients.specs.Clients.{no_clients, is_client, client_at, clients_in};
 
-use elements::Head;
 use table::Client;
 
 // The client IDs of one rule. Places from the count on hold 0.
@@ -63,7 +62,7 @@ pub fn read_clients(message: &[u8], from: usize, end: usize) -> Clients
     let mut clients = no_clients();
     let mut at = from;
     loop {
-        let Head::Value(len) = elements::read_head(message, at, end) else {
+        let Some(len) = elements::value_at(message, at, end) else {
             return clients;
         };
         let here = at;

@@ -10,7 +10,6 @@ ghost use Rattle.std.specs.Prelude.{◌≡◌, ◌+◌, ◌≤◌, length};
 ghost use Rattle.children.specs.Rows.{row_in, row_fold};
 ghost use Rattle.configurations.specs.Configurations.{empty_configuration, with_timer, with_configuration_child, configuration_at};
 
-use elements::Head;
 use table::TimerValues;
 
 // The channels and the timer values. Places from the count on hold 0.
@@ -70,7 +69,7 @@ fn configuration_in(message: &[u8], from: usize, end: usize) -> Configuration
     let mut configuration = empty_configuration();
     let mut at = from;
     loop {
-        let Head::Value(len) = elements::read_head(message, at, end) else {
+        let Some(len) = elements::value_at(message, at, end) else {
             return configuration;
         };
         let here = at;
@@ -93,7 +92,7 @@ fn configuration_in(message: &[u8], from: usize, end: usize) -> Configuration
 pub fn configuration_at(message: &[u8], at: usize) -> Configuration
     ensures { result ≡ configuration_at message.now at }
 {
-    let Head::Value(len) = elements::read_head(message, at, message.len()) else {
+    let Some(len) = elements::value_at(message, at, message.len()) else {
         return empty_configuration();
     };
     let value = at + 2;

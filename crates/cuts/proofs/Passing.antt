@@ -10,8 +10,7 @@ use mathlib.Core.Path.{◌≡◌, sym, ap, ◌∙◌}
 use mathlib.Core.List.{List}
 use native.Mathlib.Omega.{arith}
 use lib.ListN.{length, get_or}
-use Rattle.elements.specs.Elements.{head_at, length_byte}
-use Rattle.elements.specs.declared.Head.TheVariants.{Refused, Value}
+use Rattle.elements.specs.Elements.{Refused, Value, head_at, length_byte}
 use Rattle.elements.proofs.Laws.{head_at_255, head_at-whole, head_at-fits}
 use Rattle.cuts.specs.Walks.{Reached, next}
 use Rattle.cuts.specs.Duties.{Passed}

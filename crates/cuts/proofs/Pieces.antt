@@ -8,8 +8,7 @@ use mathlib.Core.List.{List, ◌∷◌, ◌++◌, append_assoc}
 use native.Mathlib.Omega.{arith}
 use lib.ListN.{length, get_or, length-append}
 use lib.Seq.{get_or-append-add}
-use Rattle.elements.specs.Elements.{head_at, length_byte}
-use Rattle.elements.specs.declared.Head.TheVariants.{Value}
+use Rattle.elements.specs.Elements.{Value, head_at, length_byte}
 use Rattle.elements.proofs.Laws.{head_at-whole}
 use Rattle.cuts.specs.Walks.{Reached, next, Elements, none, more}
 

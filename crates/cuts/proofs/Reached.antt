@@ -14,10 +14,7 @@ use native.Mathlib.Omega.{arith}
 use borrow.Author.Tests.{eqb-true, eqb-false, ltb-true, ltb-false}
 use lib.ListN.{length}
 use lib.Dec.{eqb, ltb}
-use Rattle.elements.specs.Elements.{head_at}
-use Rattle.elements.specs.Stood.{stood}
-use Rattle.elements.specs.declared.Head.{Head}
-use Rattle.elements.specs.declared.Head.TheVariants.{End, Refused, Value}
+use Rattle.elements.specs.Elements.{Head, End, Refused, Value, head_at}
 use Rattle.elements.proofs.Laws.{head_at_ends, head_at-fits}
 use Rattle.children.specs.Rows.{row_in}
 use Rattle.children.proofs.Laws.{row_in_item}
@@ -32,7 +29,7 @@ agrees msg (next {at} len t e) =
     let i = agrees msg t in
     let f = head_at-fits msg at (length msg) e in (
       f.1,
-      λ c q. i.1 c (omega arith) ∙ ap (λ r. may_in r (length msg) c) (row_in_item msg at (length msg) (ap stood (sym e)) refl) ∙ may_in-item at len _ (length msg) c (omega arith),
+      λ c q. i.1 c (omega arith) ∙ ap (λ r. may_in r (length msg) c) (row_in_item msg at (length msg) (sym e) refl) ∙ may_in-item at len _ (length msg) c (omega arith),
     )
 
 pub reached_may : (msg : List ℕ) (c : ℕ) → Reached msg c → may_cut msg c ≡ true
@@ -45,7 +42,7 @@ free_may msg at c t e never l = (agrees msg t).1 c (omega arith) ∙ may_in-free
 pub inside-never : (msg : List ℕ) (at c : ℕ) {len : ℕ} → Reached msg at → head_at msg at (length msg) ≡ Value len → at < c → c < at + 2 + len → may_cut msg c ≡ false
 inside-never msg at c {len} t e l m =
     (agrees msg t).1 c (omega arith)
-    ∙ ap (λ r. may_in r (length msg) c) (row_in_item msg at (length msg) (ap stood (sym e)) refl)
+    ∙ ap (λ r. may_in r (length msg) c) (row_in_item msg at (length msg) (sym e) refl)
     ∙ may_in-item at len _ (length msg) c l
     ∙ may_in-before msg (at + 2 + len) c m (head_at-fits msg at (length msg) e).1
 
@@ -62,7 +59,7 @@ behind : (msg : List ℕ) (at c : ℕ) (h : Head) → head_at msg at (length msg
 behind msg at c End e t l inside later may = absurd (omega (arith, head_at_ends msg at (length msg) e))
 behind msg at c (Refused n) e t l inside later may = inr (record { place = at; number = n; reached = t; faulty = e; before = l })
 behind msg at c (Value len) e t l inside later may =
-    later len e (sym (ap (λ r. may_in r (length msg) c) (row_in_item msg at (length msg) (ap stood (sym e)) refl) ∙ may_in-item at len _ (length msg) c l) ∙ may)
+    later len e (sym (ap (λ r. may_in r (length msg) c) (row_in_item msg at (length msg) (sym e) refl) ∙ may_in-item at len _ (length msg) c l) ∙ may)
 
 -- a cut by where it stands to such a place; `on` says what is behind it
 says_at : (msg : List ℕ) (at c : ℕ) → Reached msg at → (at < c → Reached msg c ⊎ FaultBefore msg c) → may_in (row_in msg at (length msg)) (length msg) c ≡ true

@@ -12,11 +12,7 @@ use mathlib.Core.List.{List}
 use native.Mathlib.Omega.{arith}
 use native.Mathlib.Numerals.{add-one}
 use lib.ListN.{length, get_or, get_or-eq_default}
-use Rattle.elements.specs.Elements.{head_at}
-use Rattle.elements.specs.Stood.{stood}
-use Rattle.elements.specs.declared.Head.{Head}
-use Rattle.elements.specs.declared.Head.TheVariants.{Value}
-use Rattle.elements.proofs.Stood.{stood_only}
+use Rattle.elements.specs.Elements.{Head, Value, head_at}
 use Rattle.cuts.specs.Cuts.{all_good, bad_at, may_cut, sum_to, cuts_from, cuts_in}
 use Rattle.cuts.specs.Walks.{Reached, first}
 use Rattle.cuts.specs.Duties.{Passed}
@@ -59,13 +55,13 @@ module _ (msg lens : List ℕ) (n cut k : ℕ) (w : Walk msg lens n cut k) where
     turn = let z : n - 1 - k ≡ suc (n - 1 - (k + 1)) = omega arith in w.rest ∙ rw z refl
 
     module _ (at : ℕ) (p : Passed msg cut to at) where
-      pub walk_free : {h : Head} → stood h ≡ stood (head_at msg at (length msg)) → ((len : ℕ) → h ≡ Value len → ⊥) → at < to → all_good ≡ cuts_in msg lens n
-      walk_free s never l = free (λ c q. free_may msg at c (p.reached w.reached) (stood_only _ _ s) never (omega arith))
+      pub walk_free : {h : Head} → h ≡ head_at msg at (length msg) → ((len : ℕ) → h ≡ Value len → ⊥) → at < to → all_good ≡ cuts_in msg lens n
+      walk_free s never l = free (λ c q. free_may msg at c (p.reached w.reached) s never (omega arith))
 
-      pub walk_bad : {h : Head} {size : ℕ} → stood h ≡ stood (head_at msg at (length msg)) → h ≡ Value size → at < to → bad_at to ≡ cuts_in msg lens n
+      pub walk_bad : {h : Head} {size : ℕ} → h ≡ head_at msg at (length msg) → h ≡ Value size → at < to → bad_at to ≡ cuts_in msg lens n
       unfolding cuts_from
       walk_bad {h} {size} s v l =
-          let head : head_at msg at (length msg) ≡ Value size = sym (stood_only _ _ s) ∙ v in
+          let head : head_at msg at (length msg) ≡ Value size = sym s ∙ v in
           sym (turn ∙ rw (← is_next, inside-never msg at to (p.reached w.reached) head l (p.stops size head l)) refl)
 
       pub walk_next : to ≤ at → Walk msg lens n to (k + 1)

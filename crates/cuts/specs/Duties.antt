@@ -4,8 +4,7 @@
 --
 -- Trusts: nothing.
 use Rattle.std.specs.Prelude.{ℕ, ◌+◌, ◌≤◌, ◌<◌, ◌≡◌, List, length}
-use Rattle.elements.specs.Elements.{head_at}
-use Rattle.elements.specs.declared.Head.TheVariants.{Value}
+use Rattle.elements.specs.Elements.{Value, head_at}
 use Rattle.cuts.specs.Walks.{Reached}
 
 pub record Passed (msg : List ℕ) (from cut r : ℕ) : Type 0 where

@@ -7,8 +7,7 @@
 --
 -- Tested by: proofs/Reached.antt: with these `may_cut` says what document 02 says; proofs/Says.antt. Trusts: nothing.
 use Rattle.std.specs.Prelude.{ℕ, suc, ◌+◌, ◌≤◌, ◌<◌, ◌≡◌, true, false, List, [], ◌∷◌, ◌++◌, length}
-use Rattle.elements.specs.Elements.{head_at}
-use Rattle.elements.specs.declared.Head.TheVariants.{Refused, Value}
+use Rattle.elements.specs.Elements.{Refused, Value, head_at}
 use Rattle.cuts.specs.Cuts.{may_cut, sum_to}
 
 pub data Reached (msg : List ℕ) : ℕ → Type 0 where

@@ -8,8 +8,6 @@ ghost use Rattle.std.specs.Prelude.{◌≡◌, ◌≤◌, length};
 ghost use Rattle.cuts.specs.Cuts.{ruling, cuts_in};
 ghost use Rattle.cuts.specs.Duties.{Passed};
 
-use elements::Head;
-
 // What the cuts of a message come to.
 #[derive(Clone, Copy)]
 pub enum Cuts {
@@ -67,7 +65,7 @@ pub fn judge_cuts(message: &[u8], lengths: [u16; 16], n: usize) -> Cuts
         }
         let at = pass_elements(message, from, cut);
         if at < cut {
-            let Head::Value(_) = elements::read_head(message, at, message.len()) else {
+            let Some(_) = elements::value_at(message, at, message.len()) else {
                 return Cuts::Good;
             };
             return Cuts::Bad(cut);

@@ -34,7 +34,7 @@ use Rattle.lending.specs.Lent.{lent_step}
 use Rattle.collection.specs.declared.Collection.{Collection}
 use Rattle.table.specs.declared.Table.{Table}
 use Rattle.elements.specs.Elements.{head_at}
-use Rattle.elements.specs.declared.Head.TheVariants as head
+use Rattle.elements.specs.Elements as head
 use Rattle.elements.proofs.Laws.{Says, head_at_says}
 use Rattle.rows.specs.declared.Tally.{Tally}
 use Rattle.rows.specs.Rows.{tested_at}

@@ -16,9 +16,7 @@ use mathlib.Core.Logic.{⊎_elim}
 use native.Mathlib.Omega.{arith}
 use lib.ListN.{length}
 use lib.Dec.{eqb}
-use Rattle.elements.specs.Elements.{head_at}
-use Rattle.elements.specs.declared.Head.{Head}
-use Rattle.elements.specs.declared.Head.TheVariants.{End, Refused, Value}
+use Rattle.elements.specs.Elements.{Head, End, Refused, Value, head_at}
 use Rattle.elements.proofs.Laws.{head_at-fits}
 use Rattle.children.specs.Rows.{row_with, row_from, row_in, row_of_head, row_inside, type_at, places_of}
 

@@ -12,11 +12,9 @@ use native.Mathlib.Omega.{arith}
 use borrow.Author.Tests.{eqb-true, eqb-false}
 use lib.ListN.{length, get_or}
 use lib.Dec.{eqb}
-use Rattle.elements.specs.Elements.{head_at}
+use Rattle.elements.specs.Elements.{Head, End, Refused, Value, head_at}
 use Rattle.types.specs.Types.{known_types}
 use Rattle.types.specs.Places.{child_of, under, placed, type_of, parent_in, table, line_at, place_in, known_at, type_under}
-use Rattle.elements.specs.declared.Head.{Head}
-use Rattle.elements.specs.declared.Head.TheVariants.{End, Refused, Value}
 use Rattle.rows.specs.Tests.{is_row, row_end, none_counted}
 use Rattle.rows.specs.Rows as rows
 use Rattle.rows.specs.Rows.{element_with, noted, go_on, on_head, row_step, row_of, element_of, tested_at}

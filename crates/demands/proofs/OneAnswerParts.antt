@@ -18,6 +18,7 @@ use Rattle.table.proofs.empty_rule.Reads as empty_rule_contract
 use Rattle.table.proofs.empty_classifier.Reads as empty_classifier_contract
 use Rattle.table.proofs.empty_table.Reads as empty_table_contract
 use Rattle.elements.proofs.read_head.Reads as read_head_contract
+use Rattle.elements.proofs.value_at.Reads as value_at_contract
 use Rattle.types.proofs.find_type.Reads as find_type_contract
 use Rattle.musts.proofs.lacks_must.Reads as lacks_must_contract
 use Rattle.element_tests.proofs.own_tests.Reads as own_tests_contract
@@ -86,6 +87,9 @@ lacks_must_one κs = only (parts.lacks_must_gives κs)
 
 pub read_head_one : (κs : Lfts 1) → One answer (read_head_contract.Post κs)
 read_head_one κs = only (parts.read_head_gives κs)
+
+pub value_at_one : (κs : Lfts 1) → One answer (value_at_contract.Post κs)
+value_at_one κs = only (parts.value_at_gives κs)
 
 -- ---- element_tests
 

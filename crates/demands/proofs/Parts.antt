@@ -22,9 +22,10 @@ use Rattle.table.proofs.empty_client.Reads as empty_client_contract
 use Rattle.table.proofs.empty_rule.Reads as empty_rule_contract
 use Rattle.table.proofs.empty_classifier.Reads as empty_classifier_contract
 use Rattle.table.proofs.empty_table.Reads as empty_table_contract
-use Rattle.elements.specs.Elements.{head_at}
-use Rattle.elements.proofs.Stood.{stood_only}
+use Rattle.elements.specs.Elements.{value_in, head_at}
 use Rattle.elements.proofs.read_head.Reads as read_head_contract
+use Rattle.elements.proofs.value_at.Reads as value_at_contract
+use Rattle.elements.proofs.Stood.{answer_as, stood_gives}
 use Rattle.types.specs.Places.{type_under}
 use Rattle.musts.specs.Musts.{lacks_must}
 use Rattle.types.proofs.Columns.{columns_only}
@@ -104,8 +105,11 @@ lacks_must_gives κs a x s h = h
 
 -- ---- elements
 
-pub read_head_gives : (κs : Lfts 1) → Gives answer (read_head_contract.Post κs) (λ a. head_at a.0.now a.1.0 a.1.1.0)
-read_head_gives κs a x s h = stood_only _ _ h
+pub read_head_gives : (κs : Lfts 1) → Gives answer (read_head_contract.Post κs) (λ a. answer_as (head_at a.0.now a.1.0 a.1.1.0))
+read_head_gives κs a x s h = stood_gives _ h
+
+pub value_at_gives : (κs : Lfts 1) → Gives answer (value_at_contract.Post κs) (λ a. value_in (head_at a.0.now a.1.0 a.1.1.0))
+value_at_gives κs a x s h = h
 
 -- ---- element_tests
 

@@ -15,9 +15,7 @@ use native.Mathlib.Omega.{arith}
 use borrow.Author.Tests.{le-leb, lt-leb, eq-eqb, ne_eqb, lt-ltb, le-ltb, leb-true, leb-false, eqb-true, eqb-false, ltb-true, ltb-false}
 use lib.ListN.{length, get_or}
 use lib.Dec.{eqb, leb, ltb}
-use Rattle.elements.specs.Elements.{head_at, length_byte}
-use Rattle.elements.specs.declared.Head.{Head}
-use Rattle.elements.specs.declared.Head.TheVariants.{End, Refused, Value}
+use Rattle.elements.specs.Elements.{Head, End, Refused, Value, head_at, length_byte}
 
 module _ (msg : List ℕ) (at end : ℕ) where
   pub head_at-end : min end (length msg) ≤ at → head_at msg at end ≡ End

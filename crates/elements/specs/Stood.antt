@@ -1,18 +1,14 @@
--- Stood: what stands at a place of a row, in the paper's words (document 01, "Elements" and refusals 6 to 8).
+-- Stood: what an answer of `read_head` says that stands at a place of a row.
 --
---   Stood, stood h   each case of a head, with its number or value: the end of the row; a refusal with its number; the length of a value
+--   stood r   the row ends; an element, with the length of its value; a head that is refused, with the refusal's number
 --
 -- The offset of a refusal is the place itself, so it is not kept. Trusts: nothing.
-use Rattle.std.specs.Prelude.{ℕ}
-use Rattle.elements.specs.declared.Head.{Head}
-use Rattle.elements.specs.declared.Head.TheVariants.{End, Refused, Value}
+use Rattle.std.specs.Prelude.{ℕ, Option, Some, None, Result, Ok, Err}
+use Rattle.refusals.specs.declared.Refusal.{Refusal}
+use Rattle.refusals.specs.Refusals.{number_of}
+use Rattle.elements.specs.Elements.{Head, End, Refused, Value}
 
-pub data Stood : Type 0 where
-  ended : Stood
-  refused : ℕ → Stood
-  value : ℕ → Stood
-
-unfoldable pub stood : Head → Stood
-stood End = ended
-stood (Refused n) = refused n
-stood (Value len) = value len
+unfoldable pub stood : Result (Option ℕ) Refusal → Head
+stood (Ok None) = End
+stood (Ok (Some len)) = Value len
+stood (Err r) = Refused (number_of r)

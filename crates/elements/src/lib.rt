@@ -4,53 +4,39 @@
 // an answer (6, 7 or 8), never a duty of the caller. It looks at no value and writes nothing.
 #![tactic(auto)]
 
-ghost use Rattle.std.specs.Prelude.{◌≡◌, min};
-ghost use Rattle.elements.specs.Elements.{head_at};
+ghost use Rattle.std.specs.Prelude.{◌≡◌};
+ghost use Rattle.elements.specs.Elements.{value_in, head_at};
 ghost use Rattle.elements.specs.Stood.{stood};
 
-// What stands at a place of a row.
-#[derive(Clone, Copy)]
-pub enum Head {
-    // No byte is left: the row ends here.
-    End,
-    // The first of 6, 7, 8 that the two head bytes earn.
-    Refused(u8),
-    // An element: the length of its value, which starts two bytes on and lies whole in the row.
-    Value(usize),
-}
+use refusals::Refusal;
 
-// A byte as a length.
-fn wide(byte: u8) -> usize
-    ensures { result ≡ byte }
+// What stands at `at` in a row of the message that ends at `end`: nothing where no byte is left; else the length of the value of
+// an element, which starts two bytes on and lies whole in the row, or the first of refusals 6, 7, 8 that the two head bytes earn.
+// The tests stand in the order of their numbers.
+pub fn read_head(message: &[u8], at: usize, end: usize) -> Result<Option<usize>, Refusal>
+    ensures { stood result ≡ head_at message.now at end }
 {
-    byte as usize
-}
-
-// The lesser of two places.
-fn lesser(a: usize, b: usize) -> usize
-    ensures { result ≡ min a b }
-{
-    if a < b { a } else { b }
-}
-
-// What stands at `at` in a row of the message that ends at `end`. The tests stand in the order of their numbers.
-pub fn read_head(message: &[u8], at: usize, end: usize) -> Head
-    ensures { stood result ≡ stood (head_at message.now at end) }
-{
-    let stop = lesser(end, message.len());
+    let stop = end.min(message.len());
     if stop <= at {
-        return Head::End;
+        return Ok(None);
     }
     let left = stop - at;
     if left == 1 {
-        return Head::Refused(6);
+        return Err(Refusal::CutHead);
     }
-    let length = wide(message[at + 1]);
+    let length = usize::from(message[at + 1]);
     if length == 255 {
-        return Head::Refused(7);
+        return Err(Refusal::Length255);
     }
     if left - 2 < length {
-        return Head::Refused(8);
+        return Err(Refusal::PastEnd);
     }
-    Head::Value(length)
+    Ok(Some(length))
+}
+
+// The length of the value of the element at `at` in a row of the message that ends at `end`; none where no element stands.
+pub fn value_at(message: &[u8], at: usize, end: usize) -> Option<usize>
+    ensures { result ≡ value_in (head_at message.now at end) }
+{
+    read_head(message, at, end).unwrap_or(None)
 }

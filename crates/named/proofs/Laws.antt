@@ -15,9 +15,7 @@ use mathlib.Core.Logic.{⊎_elim}
 use native.Mathlib.Omega.{arith}
 use lib.ListN.{length, get_or}
 use lib.Dec.{eqb}
-use Rattle.elements.specs.Elements.{head_at}
-use Rattle.elements.specs.declared.Head.{Head}
-use Rattle.elements.specs.declared.Head.TheVariants.{End, Refused, Value}
+use Rattle.elements.specs.Elements.{Head, End, Refused, Value, head_at}
 use Rattle.elements.proofs.Laws.{head_at_starts, head_at-fits}
 use Rattle.table.specs.Table.{rules_of, numbers_of}
 use Rattle.table.specs.declared.Rule.{Rule}

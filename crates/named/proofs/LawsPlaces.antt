@@ -8,15 +8,12 @@ use mathlib.Core.Path.{◌≡◌, refl, ◌∙◌}
 use mathlib.Core.List.{List}
 use borrow.Author.Tests.{eq-eqb, ne_eqb}
 use lib.ListN.{get_or}
-use Rattle.elements.specs.Elements.{head_at}
-use Rattle.elements.specs.Stood.{stood}
-use Rattle.elements.specs.declared.Head.{Head}
-use Rattle.elements.specs.declared.Head.TheVariants.{Value}
+use Rattle.elements.specs.Elements.{Head, Value, head_at}
 use Rattle.children.specs.Rows.{row_in, type_at, places_of}
 use Rattle.children.proofs.Laws.{row_in_stop, row_in_item}
 use Rattle.named.proofs.Lists.{get_or_later}
 
-module _ (msg : List ℕ) (kind at end n : ℕ) {h : Head} (e : stood h ≡ stood (head_at msg at end)) where
+module _ (msg : List ℕ) (kind at end n : ℕ) {h : Head} (e : h ≡ head_at msg at end) where
   pub places_stop : ((len : ℕ) → h ≡ Value len → ⊥) → 0 ≡ get_or (places_of msg kind (row_in msg at end)) n 0
   places_stop never = row_in_stop (λ row. 0 ≡ get_or (places_of msg kind row) n 0) msg at end e never refl (λ k. refl)
 

@@ -10,7 +10,6 @@ ghost use Rattle.table.specs.Table.{limited_to};
 ghost use Rattle.named.specs.Named.{unanswered, named_place, lone_number};
 ghost use Rattle.named.specs.Sought.{sought};
 
-use elements::Head;
 use table::{Rule, Table};
 
 // Whether every classifier number that the rules name is carried by a classifier.
@@ -38,7 +37,7 @@ fn nth_place(message: &[u8], from: usize, end: usize, kind: u8, n: usize) -> usi
     let mut left = n;
     let mut at = from;
     loop {
-        let Head::Value(len) = elements::read_head(message, at, end) else {
+        let Some(len) = elements::value_at(message, at, end) else {
             return 0;
         };
         let here = at;
@@ -58,7 +57,7 @@ fn named_place(message: &[u8], i: usize, j: usize) -> usize
     ensures { result ≡ named_place message.now i j }
 {
     let rule = nth_place(message, 0, message.len(), 50, i);
-    let Head::Value(len) = elements::read_head(message, rule, message.len()) else {
+    let Some(len) = elements::value_at(message, rule, message.len()) else {
         return 0;
     };
     nth_place(message, rule + 2, rule + 2 + len, 6, j)

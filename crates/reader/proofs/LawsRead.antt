@@ -13,9 +13,7 @@ use mathlib.Core.List.{List}
 use native.Mathlib.Omega.{arith}
 use borrow.Author.Tests.{eq-eqb, ne_eqb}
 use lib.ListN.{length}
-use Rattle.elements.specs.Elements.{head_at}
-use Rattle.elements.specs.declared.Head.{Head}
-use Rattle.elements.specs.declared.Head.TheVariants.{End, Refused, Value}
+use Rattle.elements.specs.Elements.{Head, End, Refused, Value, head_at}
 use Rattle.elements.proofs.Laws.{head_at-end, head_at_ends, head_at_starts, head_at-fits}
 use Rattle.table.specs.declared.Rule.{Rule}
 use Rattle.table.specs.declared.Classifier.{Classifier}

@@ -13,7 +13,6 @@ use lib.ListN.{length, replicate}
 use lib.Dec.{eqb}
 use Rattle.table.specs.Table.{empty_table}
 use Rattle.table.specs.declared.Table.{Table}
-use Rattle.elements.specs.Stood.{stood}
 use Rattle.elements.proofs.Laws.{head_at-end}
 use Rattle.children.specs.Rows.{row_in}
 use Rattle.configurations.specs.Configurations.{empty_configuration, configuration_at}
@@ -43,7 +42,7 @@ left msg so = cond (eqb so.bad 0) (length msg - so.next) 0
 configuration_at-end : (msg : List ℕ) → configuration_at msg (length msg) ≡ empty_configuration
 unfolding configuration_at
 configuration_at-end msg =
-    rw (row_inside-done msg (length msg) (ap stood (sym (head_at-end msg (length msg) (length msg) (omega arith)))) (λ len v. let z : ◌≡◌ {A = ℕ} 0 1 = cc in omega arith))
+    rw (row_inside-done msg (length msg) (sym ((head_at-end msg (length msg) (length msg) (omega arith)))) (λ len v. let z : ◌≡◌ {A = ℕ} 0 1 = cc in omega arith))
 
 pub taking_empty : (msg : List ℕ) {t : Table} {so : Tested} → t ≡ empty_table → so ≡ none_tested
     → Taking msg (replicate 32 0) (replicate 32 0) (with_configuration (configuration_at msg (length msg)) t) so

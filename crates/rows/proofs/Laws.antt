@@ -17,11 +17,9 @@ use borrow.Author.Tests.{eq-eqb, eqb-true, eqb-false, not-true, leb-false}
 use lib.ListN.{length, get_or, set}
 use lib.Seq.{set_out}
 use lib.Dec.{eqb}
-use Rattle.elements.specs.Elements.{head_at}
+use Rattle.elements.specs.Elements.{Head, End, Refused, Value, head_at}
 use Rattle.types.specs.Places.{type_under}
 use Rattle.elements.proofs.Laws.{head_at-end, head_at_ends, head_at_starts, head_at-fits}
-use Rattle.elements.specs.declared.Head.{Head}
-use Rattle.elements.specs.declared.Head.TheVariants.{End, Refused, Value}
 use Rattle.types.specs.declared.Known.{Known}
 use Rattle.element_tests.specs.Tests.{stepped, second_copy, wrong_length, bad_value, is_full, own_tests}
 use Rattle.rows.specs.Tests.{is_row}

@@ -11,12 +11,10 @@ use Prim.Native.Nat.{ℕ, zero, suc, ◌+◌, ◌≤◌, ◌<◌}
 use native.Mathlib.Omega.{arith}
 use lib.ListN.{length, get_or}
 use lib.Dec.{eqb}
-use Rattle.elements.specs.Elements.{head_at}
+use Rattle.elements.specs.Elements.{Head, End, Refused, Value, head_at}
 use Rattle.types.specs.Places.{type_under}
 use Rattle.musts.specs.Musts.{lacks_must}
 use Rattle.elements.proofs.Laws.{head_at_starts, head_at-fits}
-use Rattle.elements.specs.declared.Head.{Head}
-use Rattle.elements.specs.declared.Head.TheVariants.{End, Refused, Value}
 use Rattle.types.specs.declared.Known.{Known}
 use Rattle.element_tests.specs.Tests.{stepped, second_copy, wrong_length, bad_value, is_full, own_tests}
 use Rattle.rows.specs.Tests.{is_row, row_end, none_counted}

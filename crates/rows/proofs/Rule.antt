@@ -6,10 +6,8 @@ use mathlib.Core.Path.{◌≡◌, refl, sym, ap, ◌∙◌, fun_ext}
 use mathlib.Core.List.{List}
 use Prim.Native.Nat.{ℕ, zero, suc, ◌+◌, ◌-◌, ◌≤◌, ◌<◌}
 use native.Mathlib.Omega.{arith}
-use Rattle.elements.specs.Elements.{head_at}
+use Rattle.elements.specs.Elements.{Head, End, Refused, Value, head_at}
 use Rattle.elements.proofs.Laws.{head_at-end, head_at-fits}
-use Rattle.elements.specs.declared.Head.{Head}
-use Rattle.elements.specs.declared.Head.TheVariants.{End, Refused, Value}
 use Rattle.rows.specs.Tests.{row_end, none_counted}
 use Rattle.rows.specs.Rows.{element_with, noted, go_on, on_head, row_step, row_from, row_of}
 use Rattle.element_tests.specs.declared.Step.{Step}

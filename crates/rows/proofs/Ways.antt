@@ -6,12 +6,8 @@ use mathlib.Core.List.{List}
 use Prim.Native.Nat.{ℕ, ◌+◌}
 use borrow.Author.Tests.{eq-eqb, ne_eqb}
 use lib.ListN.{length, get_or}
-use Rattle.elements.specs.Elements.{head_at}
-use Rattle.elements.specs.Stood.{stood}
-use Rattle.elements.proofs.Stood.{stood_only}
+use Rattle.elements.specs.Elements.{Head, End, Refused, Value, head_at}
 use Rattle.types.specs.Places.{type_under}
-use Rattle.elements.specs.declared.Head.{Head}
-use Rattle.elements.specs.declared.Head.TheVariants.{End, Refused, Value}
 use Rattle.types.specs.declared.Known.{Known}
 use Rattle.element_tests.specs.Tests.{stepped, own_tests}
 use Rattle.rows.specs.Tests.{is_row, row_end, none_counted}
@@ -21,23 +17,23 @@ use Rattle.rows.specs.declared.Tally.{Tally}
 use Rattle.element_tests.specs.declared.Step.{Step}
 use Rattle.rows.specs.declared.Fault.{Fault}
 
-module _ (msg : List ℕ) (parent own at end : ℕ) (t : List ℕ) {h : Head} (e : stood h ≡ stood (head_at msg at end)) where
+module _ (msg : List ℕ) (parent own at end : ℕ) (t : List ℕ) {h : Head} (e : h ≡ head_at msg at end) where
   pub row_ends : {f : Fault} → h ≡ End → f ≡ row_end parent own t → f ≡ row_of msg parent own at end t
   unfolding row_step
-  row_ends b x = sym (row-rule msg parent own at end t ∙ simp (← stood_only _ _ e, b, ← x))
+  row_ends b x = sym (row-rule msg parent own at end t ∙ simp (← e, b, ← x))
 
   pub row-bad : {n : ℕ} → h ≡ Refused n → ◌≡◌ {A = Fault} (record { bad = n; off = at }) (row_of msg parent own at end t)
   unfolding row_step
-  row-bad b = sym (row-rule msg parent own at end t ∙ simp (← stood_only _ _ e, b))
+  row-bad b = sym (row-rule msg parent own at end t ∙ simp (← e, b))
 
   module _ {len : ℕ} {s : Step} (b : h ≡ Value len) (x : s ≡ element_of msg parent at len t) where
     pub row-stops : (s.bad ≡ 0 → ⊥) → ◌≡◌ {A = Fault} (record { bad = s.bad; off = s.off }) (row_of msg parent own at end t)
     unfolding row_step element_of
-    row-stops z = sym (row-rule msg parent own at end t ∙ simp (← stood_only _ _ e, b, ← x, ne_eqb _ _ z))
+    row-stops z = sym (row-rule msg parent own at end t ∙ simp (← e, b, ← x, ne_eqb _ _ z))
 
     pub row_goes : {u : List ℕ} → s.bad ≡ 0 → u ≡ noted t s → row_of msg parent own (at + 2 + len) end u ≡ row_of msg parent own at end t
     unfolding row_step element_of
-    row_goes z q = sym (row-rule msg parent own at end t ∙ simp (← stood_only _ _ e, b, ← x, eq-eqb _ _ z, ← q))
+    row_goes z q = sym (row-rule msg parent own at end t ∙ simp (← e, b, ← x, eq-eqb _ _ z, ← q))
 
 module _ (msg : List ℕ) (parent at len : ℕ) (t : List ℕ) where
   pub elem_unlisted : {known : Known} → known ≡ type_under parent (get_or msg at 0) → known.place ≡ 26 → stepped 0 at 8 0 ≡ element_of msg parent at len t
@@ -69,16 +65,16 @@ module _ (msg : List ℕ) (parent at len : ℕ) (t : List ℕ) where
         unfolding element_of element_with
         elem_row z = simp (← o.typed, ne_eqb _ _ o.listed, ← o.tests, eq-eqb _ _ b, ← i, y, ← x, eq-eqb _ _ z)
 
-module _ (msg : List ℕ) (at : ℕ) (t : Tally) {h : Head} (e : stood h ≡ stood (head_at msg at (length msg))) where
+module _ (msg : List ℕ) (at : ℕ) (t : Tally) {h : Head} (e : h ≡ head_at msg at (length msg)) where
   pub top_ends : h ≡ End → record { bad = 0; off = at; next = at; tally = t } ≡ tested_at msg at t
   unfolding tested_at
-  top_ends b = simp (← stood_only _ _ e, b)
+  top_ends b = simp (← e, b)
 
   pub top_bad : {n : ℕ} → h ≡ Refused n → record { bad = n; off = at; next = at; tally = t } ≡ tested_at msg at t
   unfolding tested_at
-  top_bad b = simp (← stood_only _ _ e, b)
+  top_bad b = simp (← e, b)
 
   pub top_goes : {len : ℕ} {s : Step} {u : Tally} → h ≡ Value len → s ≡ element_of msg 26 at len t.counts → u.counts ≡ noted t.counts s
       → record { bad = s.bad; off = s.off; next = at + 2 + len; tally = u } ≡ tested_at msg at t
   unfolding tested_at
-  top_goes b x q = simp (← stood_only _ _ e, b, ← x, ← q)
+  top_goes b x q = simp (← e, b, ← x, ← q)

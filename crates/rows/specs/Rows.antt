@@ -8,10 +8,8 @@
 -- That row_of is the rule over itself, however its steps are counted, is the law row-rule (proofs/Rule.antt).
 -- Not here: 14, 15, and what a row's elements leave in the table. Tested by: proofs/Bench.antt. Trusts: nothing.
 use Rattle.std.specs.Prelude.{ℕ, zero, suc, ◌+◌, ◌-◌, cond, not, List, length, get_or, set, eqb}
-use Rattle.elements.specs.Elements.{head_at}
+use Rattle.elements.specs.Elements.{Head, End, Refused, Value, head_at}
 use Rattle.types.specs.Places.{type_under}
-use Rattle.elements.specs.declared.Head.{Head}
-use Rattle.elements.specs.declared.Head.TheVariants.{End, Refused, Value}
 use Rattle.element_tests.specs.Tests.{stepped, own_tests}
 use Rattle.rows.specs.Tests.{is_row, row_end, none_counted}
 use Rattle.rows.specs.declared.Tally.{Tally}

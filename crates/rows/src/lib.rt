@@ -14,7 +14,6 @@ ghost use Rattle.rows.specs.Tests.{is_row, row_end, none_counted, empty_tally};
 ghost use Rattle.rows.specs.Rows.{element_of, row_of, tested_at};
 
 use element_tests::Step;
-use elements::Head;
 use types::Length;
 
 // How many elements of each list stand before this one in its row. A type's list has a number in its row.
@@ -119,16 +118,16 @@ fn row_from(message: &[u8], parent: usize, own: usize, from: usize, end: usize) 
     let mut counts = [0u8; 8];
     loop {
         match elements::read_head(message, at, end) {
-            Head::End => {
+            Ok(None) => {
                 return row_end(parent, own, &counts);
             }
-            Head::Refused(number) => {
+            Err(refusal) => {
                 return Fault {
-                    bad: number,
+                    bad: refusal.number(),
                     off: at,
                 };
             }
-            Head::Value(len) => {
+            Ok(Some(len)) => {
                 let step = element(message, parent, at, len, &counts);
                 if step.bad != 0 {
                     return Fault {
@@ -152,19 +151,19 @@ pub fn test_element(message: &[u8], at: usize, tally: Tally) -> Tested
     ensures { result ≡ tested_at message.now at tally }
 {
     match elements::read_head(message, at, message.len()) {
-        Head::End => Tested {
+        Ok(None) => Tested {
             bad: 0,
             off: at,
             next: at,
             tally,
         },
-        Head::Refused(number) => Tested {
-            bad: number,
+        Err(refusal) => Tested {
+            bad: refusal.number(),
             off: at,
             next: at,
             tally,
         },
-        Head::Value(len) => {
+        Ok(Some(len)) => {
             let known = types::find_type(types::TOP_LEVEL, message[at]);
             let place = known.place;
             if place == types::UNLISTED {

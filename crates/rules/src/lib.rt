@@ -12,7 +12,6 @@ ghost use Rattle.table.specs.Table.{empty_rule};
 ghost use Rattle.children.specs.Rows.{row_in, row_fold};
 ghost use Rattle.rules.specs.Rules.{with_rule_child, rule_at};
 
-use elements::Head;
 use table::Rule;
 
 // A list of UCIDs: the `len` bytes from `value` on, and 0 behind them.
@@ -42,7 +41,7 @@ fn rule_in(message: &[u8], from: usize, end: usize) -> Rule
     let mut rule = table::empty_rule();
     let mut at = from;
     loop {
-        let Head::Value(len) = elements::read_head(message, at, end) else {
+        let Some(len) = elements::value_at(message, at, end) else {
             return rule;
         };
         let kind = message[at];
@@ -89,7 +88,7 @@ fn rule_in(message: &[u8], from: usize, end: usize) -> Rule
 pub fn rule_at(message: &[u8], at: usize) -> Rule
     ensures { result ≡ rule_at message.now at }
 {
-    let Head::Value(len) = elements::read_head(message, at, message.len()) else {
+    let Some(len) = elements::value_at(message, at, message.len()) else {
         return table::empty_rule();
     };
     let value = at + 2;

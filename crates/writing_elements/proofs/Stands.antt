@@ -14,8 +14,7 @@ use native.Mathlib.Nat.{add-zero, pow-suc, pow-zero, div-add-mod', div-lt_iff_lt
 use lib.ListN.{length, get_or, take, drop, length-append}
 use lib.Seq.{drop-drop, drop-append_seam, take-append_seam, get_or-drop}
 use Rattle.numbers.specs.Numbers.{number_at}
-use Rattle.elements.specs.Elements.{head_at}
-use Rattle.elements.specs.declared.Head.TheVariants.{Value}
+use Rattle.elements.specs.Elements.{Value, head_at}
 use Rattle.elements.proofs.Laws.{head_at-whole}
 use Rattle.writing_elements.specs.Encode.{big_endian, element}
 

@@ -7,7 +7,6 @@ use mathlib.Core.List.{List, [], ◌∷◌}
 use native.Mathlib.Omega.{arith}
 use borrow.Author.Tests.{ne_eqb, le-ltb, lt-leb}
 use lib.ListN.{length, get_or}
-use Rattle.elements.specs.Stood.{stood}
 use Rattle.table.specs.Table.{empty_classifier}
 use Rattle.table.specs.declared.Classifier.{Classifier}
 use Rattle.types.specs.declared.Length.TheVariants.{Row, Bytes}
@@ -121,7 +120,7 @@ module _ (msg : List ℕ) (at : ℕ) (q : Classifier) (g : ClassifierGood q) (s 
   unfolding classifier_at classifier_bytes
   classifier_back =
       ap (λ row. row_fold (with_classifier_child msg) row empty_classifier)
-      (row_inside-row msg at (ap stood (sym (stands_head {v = classifier_row q} s (length msg) (omega (arith, classifier_row-most q)) (omega (arith, s.fits))))) refl)
+      (row_inside-row msg at (sym ((stands_head {v = classifier_row q} s (length msg) (omega (arith, classifier_row-most q)) (omega (arith, s.fits))))) refl)
       ∙ row_folded msg 0 at (with_classifier_child msg) (classifier_good msg at q g (at + 2) (stands_value s))
 
   pub classifier-tested : (u : List ℕ) → get_or u 0 0 < 32 → element_of msg 26 at (length (classifier_row q)) u ≡ passed at 0 (get_or u 0 0 + 1)

@@ -13,7 +13,6 @@ use native.Mathlib.Omega.{arith}
 use borrow.Author.Tests.{ne_eqb, lt-ltb, le-ltb, lt-leb, eqb-true}
 use lib.ListN.{length, get_or}
 use lib.Dec.{eqb}
-use Rattle.elements.specs.Stood.{stood}
 use Rattle.table.specs.Table.{channels_of, padded}
 use Rattle.table.specs.declared.Table.{Table}
 use Rattle.table.proofs.Laws.{length-channels_of_le}
@@ -140,7 +139,7 @@ module _ (t : Table) (g : Producible t) where
   unfolding configuration_at
   configuration_back msg at s =
       ap (λ row. row_fold (with_configuration_child msg) row empty_configuration)
-      (row_inside-row msg at (ap stood (sym (stands_head {v = configuration_row t} s (length msg) (omega (arith, configuration_row-most t)) (omega (arith, s.fits))))) refl)
+      (row_inside-row msg at (sym ((stands_head {v = configuration_row t} s (length msg) (omega (arith, configuration_row-most t)) (omega (arith, s.fits))))) refl)
       ∙ row_folded msg 2 at (with_configuration_child msg) (configuration_good msg at t g (at + 2) (stands_value s))
 
   pub configuration_tested : (msg : List ℕ) (at : ℕ) (u : List ℕ) → Stands msg at (element 51 (configuration_row t)) → get_or u 2 0 ≡ 0

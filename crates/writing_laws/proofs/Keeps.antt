@@ -14,10 +14,7 @@ use native.Mathlib.Omega.{arith}
 use borrow.Author.Tests.{eqb-true, eqb-false, not-true, not-false}
 use lib.ListN.{get_or}
 use lib.Dec.{eqb}
-use Rattle.elements.specs.Elements.{head_at}
-use Rattle.elements.specs.Stood.{stood}
-use Rattle.elements.specs.declared.Head.{Head}
-use Rattle.elements.specs.declared.Head.TheVariants.{End, Refused, Value}
+use Rattle.elements.specs.Elements.{Head, End, Refused, Value, head_at}
 use Rattle.elements.proofs.Laws.{head_at_starts, head_at-fits}
 use Rattle.types.specs.Places.{type_under}
 use Rattle.types.specs.declared.Known.{Known}
@@ -127,11 +124,11 @@ module _ {A : Type 0} (msg : List ℕ) (parent own : ℕ) (step : ℕ → ℕ �
     where
       on : (h : Head) → head_at msg at end ≡ h → (on_head h (row_end parent own u) at (turn at u)).bad ≡ 0 → Kept P parent (row_fold step (row_in msg at end) so)
       on End e y =
-          subst (λ (x : A). Kept P parent x) (fold_stop step msg at end so (ap stood (sym e)) (λ len q. let c : ◌≡◌ {A = ℕ} 0 1 = cc in absurd (omega arith))) (end-keeps u so y p)
+          subst (λ (x : A). Kept P parent x) (fold_stop step msg at end so (sym e) (λ len q. let c : ◌≡◌ {A = ℕ} 0 1 = cc in absurd (omega arith))) (end-keeps u so y p)
       on (Refused k) e y = absurd (omega (arith, (head_at_starts msg at end e).0))
       on (Value len) e y =
           let f = turn_fine at len u y in
-          subst (λ (x : A). Kept P parent x) (fold_item step msg at end so (ap stood (sym e)) refl refl) (rest len e f.1 (each at len u so e f.0 p))
+          subst (λ (x : A). Kept P parent x) (fold_item step msg at end so (sym e) refl refl) (rest len e f.1 (each at len u so e f.0 p))
 
   keeps_from : (n at : ℕ) (u : List ℕ) (so : A) → end - at ≤ n → (row_of msg parent own at end u).bad ≡ 0 → P u so → Kept P parent (row_fold step (row_in msg at end) so)
   keeps_from zero at u so m z p = by_head at u so z p (λ len e f q. absurd (omega (arith, (head_at-fits msg at end e).0)))

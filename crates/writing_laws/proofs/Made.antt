@@ -12,7 +12,6 @@ use native.Mathlib.Omega.{arith}
 use borrow.Author.Tests.{eqb-true, leb-true, leb-false}
 use lib.ListN.{length, get_or-eq_default}
 use lib.Dec.{eqb, ltb, leb}
-use Rattle.elements.specs.Stood.{stood}
 use Rattle.table.specs.Table.{rules_of, classifiers_of, channels_of, empty_table, empty_rule, empty_classifier, padded}
 use Rattle.table.specs.declared.Table.{Table}
 use Rattle.table.proofs.Padded.{take-padded}
@@ -67,7 +66,7 @@ module _ (msg : List ℕ) (octets : Octets msg) (at : ℕ) (tally : Tally) (fine
       record {
         len = w.len;
         tested = (element_sees msg 26 at w.len tally.counts (known place Row repeats Any room list) (ap (type_under 26) e ∙ typed) (λ z. omega (arith, z)) w.fine).inner refl;
-        row = row_inside-row msg at (ap stood (sym w.head)) refl;
+        row = row_inside-row msg at (sym w.head) refl;
       }
 
   rule-here : type_at msg at ≡ 50 → RuleGood (rule_at msg at)

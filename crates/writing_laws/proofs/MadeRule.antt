@@ -12,8 +12,7 @@ use lib.ListN.{length, get_or, take, drop, length-take, length-drop}
 use lib.Dec.{eqb}
 use Rattle.numbers.specs.Numbers.{number_at}
 use Rattle.numbers.proofs.Laws.{number_at_below}
-use Rattle.elements.specs.Elements.{head_at}
-use Rattle.elements.specs.declared.Head.TheVariants.{Value}
+use Rattle.elements.specs.Elements.{Value, head_at}
 use Rattle.elements.proofs.Laws.{head_at-fits}
 use Rattle.table.specs.Table.{empty_client, empty_rule, clients_of, numbers_of, ucids_of, padded}
 use Rattle.table.specs.declared.Rule.{Rule}

@@ -12,7 +12,6 @@ use mathlib.Core.List.{List, [], ◌∷◌, ◌++◌}
 use native.Mathlib.Omega.{arith}
 use borrow.Author.Tests.{ne_eqb, lt-ltb, le-ltb, lt-leb, le-leb}
 use lib.ListN.{length, get_or}
-use Rattle.elements.specs.Stood.{stood}
 use Rattle.table.specs.Table.{empty_client, empty_rule, clients_of, numbers_of, ucids_of, padded}
 use Rattle.table.specs.declared.Client.{Client}
 use Rattle.table.specs.declared.Rule.{Rule}
@@ -130,7 +129,7 @@ module _ (msg : List ℕ) (at : ℕ) (q : Rule) (g : RuleGood q) (s : Stands msg
   unfolding rule_at rule_bytes
   rule_back =
       ap (λ row. row_fold (with_rule_child msg) row empty_rule)
-      (row_inside-row msg at (ap stood (sym (stands_head {v = rule_row q} s (length msg) (omega (arith, rule_row-most q)) (omega (arith, s.fits))))) refl)
+      (row_inside-row msg at (sym ((stands_head {v = rule_row q} s (length msg) (omega (arith, rule_row-most q)) (omega (arith, s.fits))))) refl)
       ∙ row_folded msg 1 at (with_rule_child msg) (rule_good msg at q g (at + 2) (stands_value s))
 
   pub rule-tested : (u : List ℕ) → get_or u 1 0 < 32 → element_of msg 26 at (length (rule_row q)) u ≡ passed at 1 (get_or u 1 0 + 1)

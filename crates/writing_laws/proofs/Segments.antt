@@ -16,7 +16,6 @@ use native.Mathlib.Omega.{arith}
 use native.Mathlib.Nat.{add-zero}
 use borrow.Author.Tests.{eq-eqb, le-ltb}
 use lib.ListN.{length, get_or, set, length-append}
-use Rattle.elements.specs.Stood.{stood}
 use Rattle.elements.proofs.Laws.{head_at-end}
 use Rattle.types.specs.Places.{type_under}
 use Rattle.types.specs.declared.Known.{Known}
@@ -88,10 +87,10 @@ module _ {A : Type 0} (msg : List ℕ) (parent own : ℕ) (step : ℕ → ℕ �
       let e : at + 2 + length v ≡ at + length (element kind v) = omega arith in
       record {
         tested = λ end h.
-            sym (row_goes msg parent own at end u (ap stood (sym (stands_head {v = v} s end few (omega arith)))) refl (sym (fine at s)) refl refl)
+            sym (row_goes msg parent own at end u (sym ((stands_head {v = v} s end few (omega arith)))) refl (sym (fine at s)) refl refl)
             ∙ ap (λ (k : ℕ). row_of msg parent own k end (set u list n)) e;
         taken = λ end h.
-            sym (fold_item step msg at end so (ap stood (sym (stands_head {v = v} s end few (omega arith)))) refl (sym (took at s)))
+            sym (fold_item step msg at end so (sym ((stands_head {v = v} s end few (omega arith)))) refl (sym (took at s)))
             ∙ ap (λ (k : ℕ). row_fold step (row_in msg k end) next) e;
       }
 
@@ -101,12 +100,12 @@ module _ {A : Type 0} (msg : List ℕ) (parent own : ℕ) (step : ℕ → ℕ �
     unfolding row_end
     row-tested m =
         r.tested (at + length bs) (omega arith)
-        ∙ sym (row_ends msg parent own (at + length bs) (at + length bs) v (ap stood (sym (head_at-end msg (at + length bs) (at + length bs) (omega arith)))) refl (simp m))
+        ∙ sym (row_ends msg parent own (at + length bs) (at + length bs) v (sym ((head_at-end msg (at + length bs) (at + length bs) (omega arith)))) refl (simp m))
 
     pub row_folded : row_fold step (row_in msg at (at + length bs)) so ≡ next
     row_folded =
         r.taken (at + length bs) (omega arith)
-        ∙ sym (fold_stop step msg (at + length bs) (at + length bs) next (ap stood (sym (head_at-end msg (at + length bs) (at + length bs) (omega arith)))) (λ len z. let c : ◌≡◌ {A = ℕ} 0 1 = cc in omega arith))
+        ∙ sym (fold_stop step msg (at + length bs) (at + length bs) next (sym ((head_at-end msg (at + length bs) (at + length bs) (omega arith)))) (λ len z. let c : ◌≡◌ {A = ℕ} 0 1 = cc in omega arith))
 
 -- ---- what an element of a known type is tested for
 

@@ -6,6 +6,7 @@ use native.Mathlib.Omega.{arith}
 use mir.Syntax.{w16}
 use mir.Val.{Fits}
 use lib.ListN.{length, get_or}
+use Rattle.elements.proofs.Stood.{value_some, value_none}
 use Rattle.cuts.proofs.Walk.{walk_start, walk_end, walk_past, walk_beyond, walk_free, walk_bad, walk_next}
 use Rattle.cuts.proofs.judge_cuts.Goals as goal
 
@@ -28,12 +29,12 @@ returns-then-message-cut c = walk_beyond _ _ _ _ _ c.loop-k.invariant.2 c.if-n-k
 -- no element stands before it
 pub returns-in_default : goal.returns-in_default
 returns-in_default c = walk_free _ _ _ _ _ c.loop-k.invariant.2 c.if-n-k.false _ _ refl refl _ c.pass_elements-at.ensures
-    c.read_head.ensures c.in_default.not-Value c.if-at-cut.true
+    refl (value_none c.value_at.ensures c.in_default.not-Some) c.if-at-cut.true
 
 -- it is inside an element
 pub returns-then-at-cut : goal.returns-then-at-cut
 returns-then-at-cut c = walk_bad _ _ _ _ _ c.loop-k.invariant.2 c.if-n-k.false _ _ refl refl _ c.pass_elements-at.ensures
-    c.read_head.ensures c.in-Value.is c.if-at-cut.true
+    refl (value_some c.value_at.ensures c.in-Some.is) c.if-at-cut.true
 
 -- it is good
 pub loop-k-preserved : goal.loop-k-preserved

@@ -5,8 +5,8 @@ use lib.ListN.{length-set}
 use lib.Seq.{set_out}
 use Rattle.types.proofs.Columns.{columns_only}
 use Rattle.types.proofs.LawsTypes.{type_under-list}
+use Rattle.elements.proofs.Stood.{stood_value, stood_end, stood_refused}
 use Rattle.elements.proofs.Laws.{head_at-fits}
-use Rattle.elements.proofs.Stood.{stood_only}
 use Rattle.rows.proofs.Ways.{row_ends, row-bad, row-stops, row_goes, elem_unlisted, elem_own, elem_leaf, elem_inner, elem_row}
 use Rattle.rows.proofs.+element_row_from.Goals as goal
 use Rattle.rows.proofs.+element_row_from.Goals.{row_from-then-list-lt-NO_LIST, row_from-else-list-lt-NO_LIST}
@@ -60,36 +60,36 @@ element-returns t c =
 pub row_from-loop-counts-init : goal.row_from-loop-counts-init
 row_from-loop-counts-init t c = record { begun = omega arith; lists = refl; rest = refl }
 
-pub row_from-returns-in-End : goal.row_from-returns-in-End
-row_from-returns-in-End t c = row_ends _ _ _ _ _ _ c.read_head.ensures c.in-End.is c.row_end.ensures ∙ c.loop-counts.invariant.rest
+pub row_from-returns-in-Ok-None : goal.row_from-returns-in-Ok-None
+row_from-returns-in-Ok-None t c = row_ends _ _ _ _ _ _ c.read_head.ensures (stood_end c.in-Ok-None.is c.in-Ok-None.field-0-is) c.row_end.ensures ∙ c.loop-counts.invariant.rest
 
-pub row_from-returns-in-Refused : goal.row_from-returns-in-Refused
-row_from-returns-in-Refused t c = row-bad _ _ _ _ _ _ c.read_head.ensures c.in-Refused.is ∙ c.loop-counts.invariant.rest
+pub row_from-returns-in-Err : goal.row_from-returns-in-Err
+row_from-returns-in-Err t c = rw c.number.ensures (row-bad _ _ _ _ _ _ c.read_head.ensures (stood_refused c.in-Err.is)) ∙ c.loop-counts.invariant.rest
 
 -- the value lies in the row and in the message
 pub row_from-element-step-requires : goal.row_from-element-step-requires
 row_from-element-step-requires t c =
-    let fits = head_at-fits _ _ _ (sym (stood_only _ _ c.read_head.ensures) ∙ c.in-Value.is) in
+    let fits = head_at-fits _ _ _ (sym c.read_head.ensures ∙ stood_value c.in-Ok-Some.is c.in-Ok-Some.field-0-is) in
     omega (arith, fits, c.loop-counts.invariant.begun)
 
 -- a child that is refused
 pub row_from-returns-then-step-ne0 : goal.row_from-returns-then-step-ne0
 row_from-returns-then-step-ne0 t c =
-    row-stops _ _ _ _ _ _ c.read_head.ensures c.in-Value.is c.element-step.ensures c.if-step-ne0.true ∙ c.loop-counts.invariant.rest
+    row-stops _ _ _ _ _ _ c.read_head.ensures (stood_value c.in-Ok-Some.is c.in-Ok-Some.field-0-is) c.element-step.ensures c.if-step-ne0.true ∙ c.loop-counts.invariant.rest
 
 pub row_from-overflow_add-at : goal.row_from-overflow_add-at
 row_from-overflow_add-at t c =
-    let fits = head_at-fits _ _ _ (sym (stood_only _ _ c.read_head.ensures) ∙ c.in-Value.is) in
+    let fits = head_at-fits _ _ _ (sym c.read_head.ensures ∙ stood_value c.in-Ok-Some.is c.in-Ok-Some.field-0-is) in
     omega (arith, fits)
 
-pub row_from-overflow_add-at-in-Value : goal.row_from-overflow_add-at-in-Value
-row_from-overflow_add-at-in-Value t c =
-    let fits = head_at-fits _ _ _ (sym (stood_only _ _ c.read_head.ensures) ∙ c.in-Value.is) in
+pub row_from-overflow_add-at-in-Ok-Some : goal.row_from-overflow_add-at-in-Ok-Some
+row_from-overflow_add-at-in-Ok-Some t c =
+    let fits = head_at-fits _ _ _ (sym c.read_head.ensures ∙ stood_value c.in-Ok-Some.is c.in-Ok-Some.field-0-is) in
     omega (arith, fits)
 
 pub row_from-loop-counts-smaller : goal.row_from-loop-counts-smaller
 row_from-loop-counts-smaller t c =
-    let fits = head_at-fits _ _ _ (sym (stood_only _ _ c.read_head.ensures) ∙ c.in-Value.is) in
+    let fits = head_at-fits _ _ _ (sym c.read_head.ensures ∙ stood_value c.in-Ok-Some.is c.in-Ok-Some.field-0-is) in
     omega (arith, fits)
 
 pub row_from-loop-counts-preserved : goal.row_from-loop-counts-preserved
@@ -99,7 +99,7 @@ row_from-loop-counts-preserved t c = record {
     | row_from-then-list-lt-NO_LIST w ↦ ap length w.counts-is ∙ simp length-set c.loop-counts.invariant.lists
     | row_from-else-list-lt-NO_LIST w ↦ ap length w.counts-is ∙ c.loop-counts.invariant.lists
   ];
-  rest = row_goes _ _ _ _ _ _ c.read_head.ensures c.in-Value.is c.element-step.ensures c.if-step-ne0.false
+  rest = row_goes _ _ _ _ _ _ c.read_head.ensures (stood_value c.in-Ok-Some.is c.in-Ok-Some.field-0-is) c.element-step.ensures c.if-step-ne0.false
       (elim c.if-list-lt-NO_LIST.branch [
         | row_from-then-list-lt-NO_LIST w ↦ w.counts-is
         | row_from-else-list-lt-NO_LIST w ↦
