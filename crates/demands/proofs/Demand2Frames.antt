@@ -18,7 +18,7 @@ use Rattle.choice.proofs.choose_rule.Met as choose_rule''
 use Rattle.tunnel.specs.Judge.{verdict_of}
 use Rattle.wire.specs.Parts.{Part, part}
 use Rattle.payloads.specs.Payload.{payload_range, part_over}
-use Rattle.tunnel_parts.specs.Prepared.{lent_tunnel, prepared_verdict}
+use Rattle.tunnel_parts.specs.Prepared.{prepared_verdict}
 use Rattle.preparing.specs.Preparing.{prepared_tunnel}
 use Rattle.tunnel.proofs.judge_frame.Reads as judge_frame_contract
 use Rattle.tunnel.proofs.judge_frame.Statement as judge_frame'
@@ -86,11 +86,8 @@ prepare_tunnel_gives κs a x s h = h
 pub judge_prepared_gives : (κs : Lfts 1) → Gives answer (judge_prepared_contract.Post κs) (λ a. prepared_verdict a.0 a.1.0.now)
 judge_prepared_gives κs a x s h = judged_only _ _ h
 
--- the tunnel in its parts: mode, address, count and seven arrays; and behind them the frame
-pub judge_lent_gives : (κs : Lfts 2) → Gives answer (judge_lent_contract.Post κs)
-    (λ a. let arrays = a.1.1.1 in let more = arrays.1.1.1.1 in let frame = more.1.1.1.0.now in
-    prepared_verdict (lent_tunnel a.0 a.1.0 a.1.1.0
-    arrays.0.now arrays.1.0.now arrays.1.1.0.now arrays.1.1.1.0.now more.0.now more.1.0.now more.1.1.0.now) frame)
+-- by a tunnel that is lent
+pub judge_lent_gives : (κs : Lfts 2) → Gives answer (judge_lent_contract.Post κs) (λ a. prepared_verdict a.0.now a.1.0.now)
 judge_lent_gives κs a x s h = judged_only _ _ h
 
 -- ---- stepping the modem

@@ -4,7 +4,7 @@
 use lib.ListN.{length}
 use contract.Lifetimes.{Lfts}
 use Rattle.demands.proofs.Contract.{Gives, One, only, answer}
-use Rattle.tunnel_parts.specs.Prepared.{lent_tunnel, prepared_verdict}
+use Rattle.tunnel_parts.specs.Prepared.{prepared_verdict}
 use Rattle.preparing.specs.Preparing.{prepared_tunnel}
 use Rattle.dsg_pieces.specs.Bodies.{CollectAfter, collect_after, ReceiveAfter, receive_after}
 use Rattle.dsg_tables.specs.Tables.{read_stepped, ListAfter, list_after, body_after}
@@ -81,11 +81,9 @@ prepare_value_gives κs a x s h = h
 pub prepare_value_one : (κs : Lfts 0) → One answer (prepare_value_contract.Post κs)
 prepare_value_one κs = only (prepare_value_gives κs)
 
--- the tunnel in its parts: mode, address, count and seven arrays; and behind them the frame
+-- by a tunnel that is lent
 pub judge_parts_gives : (κs : Lfts 2) → Gives answer (judge_parts_contract.Post κs)
-    (λ a. let arrays = a.1.1.1 in let more = arrays.1.1.1.1 in let frame = more.1.1.1.0.now in
-    verdict_as (prepared_verdict (lent_tunnel a.0 a.1.0 a.1.1.0
-    arrays.0.now arrays.1.0.now arrays.1.1.0.now arrays.1.1.1.0.now more.0.now more.1.0.now more.1.1.0.now) frame) (length frame))
+    (λ a. verdict_as (prepared_verdict a.0.now a.1.0.now) (length a.1.0.now))
 judge_parts_gives κs a x s h = h
 
 pub judge_parts_one : (κs : Lfts 2) → One answer (judge_parts_contract.Post κs)

@@ -32,21 +32,9 @@ pub fn dsg_prepare(table: &Table, kind: u8, value: u64, known: u8, ucid: u8) -> 
     prepare_value(*table, kind, value, known, ucid)
 }
 
-// The verdict on a frame, by a prepared tunnel that the host lends. Its arrays are lent on: a frame costs no copy.
+// The verdict on a frame, by a prepared tunnel that the host lends. It is lent on: a frame costs no copy.
 pub fn dsg_judge_prepared(tunnel: &Tunnel, frame: &[u8]) -> Verdict
     ensures { result ≡ verdict_as (prepared_verdict tunnel.now frame.now) (length frame.now) }
 {
-    judge_parts(
-        tunnel.mode,
-        tunnel.address,
-        tunnel.count,
-        &tunnel.destinations,
-        &tunnel.sources,
-        &tunnel.masks,
-        &tunnel.starts,
-        &tunnel.ends,
-        &tunnel.numbers,
-        &tunnel.ports,
-        frame,
-    )
+    judge_parts(tunnel, frame)
 }

@@ -42,7 +42,7 @@ pub extern "C" fn dsg_prepare(table: &Table, kind: u8, value: u64, known: u8, uc
     dsg::frames::dsg_prepare(table, kind, value, known, ucid)
 }
 
-// The verdict on a frame, by a prepared tunnel that the host lends. Its arrays are lent on: a frame costs no copy.
+// The verdict on a frame, by a prepared tunnel that the host lends. It is lent on: a frame costs no copy.
 #[unsafe(no_mangle)]
 pub extern "C" fn dsg_judge_prepared(tunnel: &Tunnel, frame: &[u8]) -> Verdict
     ensures { result ≡ verdict_as (prepared_verdict tunnel.now frame.now) (length frame.now) }

@@ -1,4 +1,4 @@
-// Choices and verdicts as numbers: the rule for a client, a frame judged, a tunnel prepared, for a table by value.
+// Choices and verdicts as numbers: the rule for a client, a frame judged, a tunnel prepared, for a table by value; a frame judged by a lent tunnel.
 //
 // `choose_value`, `judge_value`, `prepare_value` and `judge_parts`. A client is a kind and a value; a UCID counts where its mark
 // is not 0. They take any table, any numbers and any frame. The payload is told by its place in the frame.
@@ -6,7 +6,7 @@
 
 ghost use Rattle.std.specs.Prelude.{◌≡◌, length};
 ghost use Rattle.choice.specs.Chose.{chose};
-ghost use Rattle.tunnel_parts.specs.Prepared.{lent_tunnel, prepared_verdict};
+ghost use Rattle.tunnel_parts.specs.Prepared.{prepared_verdict};
 ghost use Rattle.preparing.specs.Preparing.{prepared_tunnel};
 ghost use Rattle.dsg_frames.specs.Frames.{client_of, ucid_of, choice_as, choice_for, verdict_as, verdict_for};
 
@@ -119,35 +119,11 @@ pub fn prepare_value(table: Table, kind: u8, value: u64, known: u8, ucid: u8) ->
     preparing::prepare_tunnel(table, client, upstream)
 }
 
-// The verdict on a frame, by the parts of a prepared tunnel.
-pub fn judge_parts<'a, 'b>(
-    mode: u8,
-    address: u64,
-    count: u8,
-    destinations: &'a [u32; 32],
-    sources: &'a [u32; 32],
-    masks: &'a [u32; 32],
-    starts: &'a [u16; 32],
-    ends: &'a [u16; 32],
-    numbers: &'a [u16; 32],
-    ports: &'a [u8; 32],
-    frame: &'b [u8],
-) -> Verdict
-    ensures { result ≡ verdict_as (prepared_verdict (lent_tunnel mode address count destinations.now sources.now masks.now starts.now ends.now numbers.now ports.now) frame.now) (length frame.now) }
+// The verdict on a frame, by a prepared tunnel that is lent.
+pub fn judge_parts(tunnel: &Tunnel, frame: &[u8]) -> Verdict
+    ensures { result ≡ verdict_as (prepared_verdict tunnel.now frame.now) (length frame.now) }
 {
-    let verdict = tunnel_parts::judge_lent(
-        mode,
-        address,
-        count,
-        destinations,
-        sources,
-        masks,
-        starts,
-        ends,
-        numbers,
-        ports,
-        frame,
-    );
+    let verdict = tunnel_parts::judge_lent(tunnel, frame);
     let length = frame.len();
     verdict_from(verdict, length)
 }

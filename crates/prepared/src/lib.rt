@@ -1,6 +1,6 @@
 // Judges a frame by a prepared tunnel alone (document 01, "Choosing and judging").
 //
-// One public function, `judge_prepared`. It takes any tunnel and any frame, lends the tunnel's parts on, and
+// One public function, `judge_prepared`. It takes any tunnel and any frame, lends the tunnel on, and
 // answers what crate `tunnel_parts` answers. Crate `preparing` makes tunnels. Nothing that is lent is written.
 #![tactic(auto)]
 
@@ -15,17 +15,5 @@ use tunnel_parts::{Tunnel, judge_lent};
 pub fn judge_prepared(tunnel: Tunnel, frame: &[u8]) -> Verdict
     ensures { judged result ≡ judged (prepared_verdict tunnel frame.now) }
 {
-    judge_lent(
-        tunnel.mode,
-        tunnel.address,
-        tunnel.count,
-        &tunnel.destinations,
-        &tunnel.sources,
-        &tunnel.masks,
-        &tunnel.starts,
-        &tunnel.ends,
-        &tunnel.numbers,
-        &tunnel.ports,
-        frame,
-    )
+    judge_lent(&tunnel, frame)
 }

@@ -3,7 +3,6 @@
 --   entry_at tu i             the entry at a place of a tunnel
 --   entries_of tu             the entries of any lent tunnel; a count above 32 is read as 32
 --   prepared_verdict tu frame the verdict by a lent tunnel: the first entry that matches
---   lent_tunnel ..            the tunnel of parts that are lent one by one
 --
 -- Mode 0: no rule fits. Mode 1: the rule names no classifier. Any other: by the entries. Unused places are not looked at.
 -- That both ways give one verdict is `prepared_same` in proofs/Same.antt of crate preparing. Trusts: nothing.
@@ -44,8 +43,3 @@ prepared_verdict tu frame =
     (cond (not (eqb (address_at frame) tu.address)) Other
     (cond (eqb tu.mode 1) (Forward 0)
     (cond (ltb place (limited_to 32 tu.count)) (Forward (get_or tu.numbers place 0)) Filtered))))
-
--- the tunnel of parts that are lent one by one
-abbrev pub lent_tunnel : ℕ → ℕ → ℕ → List ℕ → List ℕ → List ℕ → List ℕ → List ℕ → List ℕ → List ℕ → Tunnel
-lent_tunnel mode address count ds ss ms st en nu po =
-    record { address = address; mode = mode; count = count; destinations = ds; sources = ss; masks = ms; starts = st; ends = en; numbers = nu; ports = po }
