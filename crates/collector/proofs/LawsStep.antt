@@ -1,15 +1,19 @@
 -- Laws of one step (specs/Step.antt): what the piece is added to, and one law for each answer of `collect`.
 --
---   base_of_number, base_of_short, from_number, from_short    the record that the piece is noted in
+--   relation_by            how a piece stands to what is held, by the parts of its body
+--   base_goes_on, base-anew, base_of_number, base_of_short    the record that the piece is noted in
 --   set_bound              a length more that keeps the bound
 --   settled_loose, settled_good, settled-bad    what a message of several pieces comes to
 --   step_refused, step_again, step_stored, step_waiting, step_alone, step_joined    each answer of the code, as the step has it
 -- Trusts: nothing.
-use Prim.Native.Nat.{ℕ, zero, suc, ◌-◌, ◌≤◌, ◌<◌}
-use mathlib.Core.Path.{◌≡◌, refl}
+use Prim.Native.Nat.{ℕ, zero, suc, ◌+◌, ◌-◌, ◌≤◌, ◌<◌}
+use mathlib.Core.Path.{◌≡◌, refl, ap, ◌∙◌}
 use mathlib.Core.Bool.{Bool, true, false, cond}
 use mathlib.Core.List.{List, [], ◌∷◌, ◌++◌}
 use native.Mathlib.Omega.{arith}
+use Rattle.std.specs.Prelude.{count_by}
+use Rattle.std.proofs.lemmas.List.Sums.{sum_by_more}
+use native.Mathlib.Numerals.{add-one}
 use borrow.Author.Tests.{eqb-true, eq-eqb, ne_eqb}
 use lib.ListN.{length, get_or, set, get_or-replicate, take, drop, length-drop, length-append}
 use lib.Seq.{length-take-le, take-append_seam}
@@ -21,13 +25,23 @@ use Rattle.cuts.specs.declared.Cuts.{Cuts}
 use Rattle.cuts.specs.declared.Cuts.TheVariants.{Good, Bad}
 use Rattle.held.specs.Held.{empty_slots}
 use Rattle.joining.specs.Pieces.{joined}
-use Rattle.relation.specs.Relation.{repeats}
+use Rattle.relation.specs.Relation.{goes_on, repeats, anew, relation_to}
 use Rattle.relation.proofs.Laws.{relation_to-goes_on}
 use Rattle.body_tests.specs.Refusals.{count_of, number_of, slot_of, piece_of, refusal_of}
 use Rattle.collector.specs.Step.{relation_of, base_of, noted, After, after, Settled, settled, finished, accepted, collect_step}
-use Rattle.collector.specs.Duties.{begun, stored_step}
+use Rattle.collector.specs.Duties.{Parts, stored_step}
 use Rattle.collection.specs.declared.Collection.{Collection}
 use Rattle.held.proofs.Laws.{well_made-short}
+
+-- ---- the empty slots
+
+pub empty_slots_counted : (filled : List ℕ) (n : ℕ) → n ≤ length filled → count_by (λ x. eqb x 0) (take n filled) ≡ empty_slots filled n
+unfolding empty_slots
+empty_slots_counted filled zero h = refl
+empty_slots_counted filled (suc n) h =
+    let e : count_by (λ x. eqb x 0) (take (n + 1) filled) ≡ count_by (λ x. eqb x 0) (take n filled) + cond (eqb (get_or filled n 0) 0) 1 0 =
+    sum_by_more (λ x. cond (eqb x 0) 1 0) filled n 0 (omega arith) in
+    rw add-one at e ∙ ap (λ (t : ℕ). t + cond (eqb (get_or filled n 0) 0) 1 0) (empty_slots_counted filled n (omega arith))
 
 -- ---- the record
 
@@ -40,8 +54,20 @@ set_bound (x ∷ xs) (suc i) a zero b h k = h
 set_bound (x ∷ xs) (suc i) a (suc j) b h k = set_bound xs i a j b h k
 
 module _ (r : Collection) (slots body : List ℕ) where
-  abbrev base : Collection
+  abbrev pub base : Collection
   base = base_of (relation_of r slots body) r body
+
+  module _ {n m k : ℕ} {p : List ℕ} (of' : Parts body n m k p) where
+    pub relation_by : {a : ℕ} → a ≡ relation_to r slots n m k p → relation_of r slots body ≡ a
+    relation_by e = cc
+
+    pub base_goes_on : goes_on ≡ relation_to r slots n m k p → r ≡ base
+    unfolding base_of
+    base_goes_on e = simp (relation_by e)
+
+    pub base-anew : anew ≡ relation_to r slots n m k p → empty_collection r.strict n m ≡ base
+    unfolding base_of
+    base-anew e = simp (relation_by e, of'.counted, of'.numbered)
 
   pub base_of_number : base.number ≡ number_of body
   unfolding base_of
@@ -90,22 +116,13 @@ unfolding collect_step
 step_refused r slots join body num e ne = simp (← e, ne_eqb num 0 ne)
 
 module _ (r : Collection) (slots join body : List ℕ) (ok : refusal_of (length slots) (length join) body ≡ 0) where
-  pub step_again : (how : ℕ) → how ≡ relation_of r slots body → how ≡ repeats → after again r slots join ≡ collect_step r slots join body
+  pub step_again : relation_of r slots body ≡ repeats → after again r slots join ≡ collect_step r slots join body
   unfolding collect_step accepted
-  step_again how e h = simp (ok, ← e, h)
+  step_again h = simp (ok, h)
 
-  module _ (how : ℕ) (e : how ≡ relation_of r slots body) (ne : how ≡ repeats → ⊥) (from : Collection) (f : from ≡ begun how r (count_of body) (number_of body)) where
-    pub from_number : from.number ≡ number_of body
-    unfolding base_of
-    from_number = rw (f, e) (base_of_number r slots body)
-
-    pub from_short : (k : ℕ) → k < 16 → get_or from.lengths k 0 ≤ 1497
-    unfolding base_of
-    from_short k p = rw (f, e) (base_of_short r slots body k p)
-
-    pub step_stored : stored_step from slots join (slot_of body) (piece_of body) ≡ collect_step r slots join body
-    unfolding collect_step accepted base_of
-    step_stored = simp (ok, ← e, ne_eqb how 1 ne, ← f, length-drop)
+  pub step_stored : (relation_of r slots body ≡ repeats → ⊥) → stored_step (base r slots body) slots join (slot_of body) (piece_of body) ≡ collect_step r slots join body
+  unfolding collect_step accepted
+  step_stored ne = simp (ok, ne_eqb (relation_of r slots body) 1 ne, length-drop)
 
 -- what is joined stands at the start of the join buffer
 pub joined-front : (m join last : List ℕ) (size : ℕ) → size ≡ length m → last ≡ m ++ drop size join → take size last ≡ m

@@ -9,19 +9,22 @@
 #![tactic(auto)]
 
 ghost use Rattle.std.specs.Prelude.{◌≡◌, ℕ, ◌≤◌, ◌<◌, length, get_or, take};
+ghost use Rattle.body_tests.specs.Refusals.{Fits};
 ghost use Rattle.held.specs.Held.{empty_slots};
 ghost use Rattle.collector.specs.Answers.{said};
-ghost use Rattle.collector.specs.Duties.{begun, stored_step, held_after};
+ghost use Rattle.collector.specs.Duties.{Parts, stored_step, held_after};
 ghost use Rattle.collector.specs.Step.{settled, finished, collect_step};
 
 use collection::Collection;
 use cuts::Cuts;
+use refusals::Refusal;
+use relation::Relation;
 
 // What a body is answered.
 #[derive(Clone, Copy)]
 pub enum Answer {
-    // Not taken: the number of the first test that it fails, 1 to 5.
-    Refused(u8),
+    // Not taken: the first of tests 1 to 5 that it fails.
+    Refused(Refusal),
     // Its slot has these bytes already.
     Repeat,
     // Stored; so many slots are empty.
@@ -40,30 +43,35 @@ pub struct Outcome {
     pub held: Collection,
 }
 
+// A body that passes the tests, in its parts.
+#[derive(Clone, Copy)]
+struct Piece<'b> {
+    count: u8,
+    number: u8,
+    slot: usize,
+    bytes: &'b [u8],
+}
+
+// The parts of a body that passes the tests.
+fn read_parts<'b>(body: &'b [u8]) -> Piece<'b>
+    requires { Fits body.now }
+    ensures { Parts body.now result.count result.number result.slot result.bytes.now }
+{
+    Piece {
+        count: body[0],
+        number: body[1],
+        slot: body[2] as usize - 1,
+        bytes: &body[3..],
+    }
+}
+
 // How many of the first `n` slots are empty.
+#[tactic(auto, using(crate::proofs::LawsStep::empty_slots_counted))]
 fn count_empty(filled: [u8; 16], n: usize) -> u8
     requires { n ≤ 16 }
     ensures { result ≡ empty_slots filled n }
 {
-    let mut empty: u8 = 0;
-    let mut k = 0;
-    while k < n {
-        if filled[k] == 0 {
-            empty += 1;
-        }
-        k += 1;
-    }
-    empty
-}
-
-// The record that the piece is noted in.
-fn base(how: u8, held: Collection, count: u8, number: u8) -> Collection
-    ensures { result ≡ begun how held count number }
-{
-    if how == relation::GOES_ON {
-        return held;
-    }
-    collection::begin(held, count, number)
+    filled[..n].iter().filter(|flag| **flag == 0).count() as u8
 }
 
 // What a message of several pieces comes to, which are joined in the first `size` bytes of the join buffer.
@@ -88,17 +96,15 @@ fn finish(next: Collection, slots: &[u8], join: &mut [u8], len: usize) -> Answer
     requires by_index { (k : ℕ) → k < 16 → get_or next.lengths k 0 ≤ 1497 }
     ensures { record { answer = said result; held = held_after (said result) next; slots = slots.now; join = join.new } ≡ finished next slots.now join.old len }
 {
-    let filled = next.filled;
     let n = next.number as usize;
-    let empty = count_empty(filled, n);
+    let empty = count_empty(next.filled, n);
     if empty != 0 {
         return Answer::Waiting(empty);
     }
     if n == 1 {
         return Answer::Complete(len);
     }
-    let lengths = next.lengths;
-    let size = joining::join_pieces(slots, join, lengths, n);
+    let size = joining::join_pieces(slots, join, next.lengths, n);
     settle(next, join, size)
 }
 
@@ -106,34 +112,23 @@ fn finish(next: Collection, slots: &[u8], join: &mut [u8], len: usize) -> Answer
 fn leave(answer: Answer, next: Collection) -> Collection
     ensures { result ≡ held_after (said answer) next }
 {
-    let Answer::Dropped(_) = answer else {
-        return next;
-    };
-    collection::begin(next, 0, 0)
+    if matches!(answer, Answer::Dropped(_)) {
+        return collection::begin(next, 0, 0);
+    }
+    next
 }
 
-// Notes the piece in the record that it goes on with or begins and stores it in slot `k`; the answer, and the record after it.
-fn accept(
-    how: u8,
-    held: Collection,
-    count: u8,
-    number: u8,
-    slots: &mut [u8],
-    join: &mut [u8],
-    k: usize,
-    piece: &[u8],
-) -> Outcome
-    requires k_bound { (k < 16) × (length piece.now ≤ 1497) }
-    requires number_bound { ((begun how held count number).number ≤ 16) × (24000 ≤ length join.old) }
-    requires by_index { (k : ℕ) → k < 16 → get_or (begun how held count number).lengths k 0 ≤ 1497 }
-    ensures { record { answer = said result.answer; held = result.held; slots = slots.new; join = join.new } ≡ stored_step (begun how held count number) slots.old join.old k piece.now }
+// Notes the piece in the record and stores it in its slot; the answer, and the record after it.
+fn accept(mut next: Collection, slots: &mut [u8], join: &mut [u8], piece: Piece) -> Outcome
+    requires slot { (piece.slot < 16) × (length piece.bytes.now ≤ 1497) }
+    requires room { (next.number ≤ 16) × (24000 ≤ length join.old) }
+    requires short { (k : ℕ) → k < 16 → get_or next.lengths k 0 ≤ 1497 }
+    ensures { record { answer = said result.answer; held = result.held; slots = slots.new; join = join.new } ≡ stored_step next slots.old join.old piece.entry.slot piece.entry.bytes.now }
 {
-    let len = piece.len();
-    let mut next = base(how, held, count, number);
-    next.filled[k] = 1;
-    next.lengths[k] = len as u16;
-    let at = k * joining::SLOT_BYTES;
-    wire::copy_at(slots, at, piece);
+    let len = piece.bytes.len();
+    next.filled[piece.slot] = 1;
+    next.lengths[piece.slot] = len as u16;
+    wire::copy_at(slots, piece.slot * joining::SLOT_BYTES, piece.bytes);
     let answer = finish(next, slots, join, len);
     Outcome {
         answer,
@@ -145,24 +140,29 @@ fn accept(
 pub fn collect(held: Collection, slots: &mut [u8], join: &mut [u8], body: &[u8]) -> Outcome
     ensures { record { answer = said result.answer; held = result.held; slots = slots.new; join = join.new } ≡ collect_step held slots.old join.old body.now }
 {
-    let refusal = body_tests::refuse(slots.len(), join.len(), body);
-    if refusal != 0 {
+    if let Err(refusal) = body_tests::refuse(slots.len(), join.len(), body) {
         return Outcome {
             answer: Answer::Refused(refusal),
             held,
         };
     }
-    let count = body[0];
-    let number = body[1];
-    let s = body[2] as usize;
-    let k = s - 1;
-    let piece = &body[3..];
-    let how = relation::relate(held, slots, count, number, k, piece);
-    if how == relation::REPEATS {
-        return Outcome {
-            answer: Answer::Repeat,
-            held,
-        };
-    }
-    accept(how, held, count, number, slots, join, k, piece)
+    let piece = read_parts(body);
+    let begun = match relation::relate(
+        held,
+        slots,
+        piece.count,
+        piece.number,
+        piece.slot,
+        piece.bytes,
+    ) {
+        Relation::Repeats => {
+            return Outcome {
+                answer: Answer::Repeat,
+                held,
+            };
+        }
+        Relation::GoesOn => held,
+        Relation::Anew => collection::begin(held, piece.count, piece.number),
+    };
+    accept(begun, slots, join, piece)
 }

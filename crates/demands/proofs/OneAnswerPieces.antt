@@ -8,10 +8,14 @@ use Rattle.demands.proofs.PartsPieces as pieces
 use Rattle.joining.specs.Pieces.{JoinAfter}
 use Rattle.texts.specs.Put.{Put}
 use Rattle.notices.specs.Listing.{Listing, written}
+use Rattle.wire.specs.Parts.{Part, part}
 use Rattle.cuts.proofs.Ruling.{ruling_only}
+use Rattle.relation.proofs.Laws.{related_only}
+use Rattle.body_tests.proofs.Laws.{refused_by_only}
 use Rattle.cuts.proofs.judge_cuts.Reads as judge_cuts_contract
 use Rattle.collection.proofs.begin.Reads as begin_contract
 use Rattle.held.proofs.is_of.Reads as is-of
+use Rattle.joining.proofs.piece_in.Reads as piece_in_contract
 use Rattle.joining.proofs.join_pieces.Reads as join_pieces_contract
 use Rattle.relation.proofs.relate.Reads as relate_contract
 use Rattle.body_tests.proofs.refuse.Reads as refuse_contract
@@ -38,14 +42,17 @@ begin_one κs = only (pieces.begin_gives κs)
 pub is_of_one : (κs : Lfts 0) → One answer (is-of.Post κs)
 is_of_one κs = only (pieces.is_of_gives κs)
 
+pub piece_in_one : (κs : Lfts 1) → One {L = Part} (λ x s. part x.ref_ptr x.now) (piece_in_contract.Post κs)
+piece_in_one κs = only (pieces.piece_in_gives κs)
+
 pub join_pieces_one : (κs : Lfts 2) → One {L = JoinAfter} (λ x s. record { size = x; join = s.1.0.now }) (join_pieces_contract.Post κs)
 join_pieces_one κs = only (pieces.join_pieces_gives κs)
 
 pub relate_one : (κs : Lfts 2) → One answer (relate_contract.Post κs)
-relate_one κs = only (pieces.relate_gives κs)
+relate_one κs a x y s t h g = related_only x y (h ∙ sym g)
 
 pub refuse_one : (κs : Lfts 1) → One answer (refuse_contract.Post κs)
-refuse_one κs = only (pieces.refuse_gives κs)
+refuse_one κs a x y s t h g = refused_by_only x y (h ∙ sym g)
 
 -- ---- packets
 

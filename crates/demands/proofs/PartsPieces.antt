@@ -3,15 +3,17 @@
 -- Trusts: nothing.
 use contract.Lifetimes.{Lfts}
 use Rattle.demands.proofs.Contract.{Gives, answer}
+use Rattle.wire.specs.Parts.{Part, part}
 use Rattle.cuts.specs.Cuts.{Ruling, ruling, cuts_in}
 use Rattle.cuts.proofs.judge_cuts.Reads as judge_cuts_contract
 use Rattle.collection.specs.Record.{empty_collection}
 use Rattle.held.specs.Held.{is_of}
-use Rattle.joining.specs.Pieces.{JoinAfter, join_step}
-use Rattle.relation.specs.Relation.{relation_to}
-use Rattle.body_tests.specs.Refusals.{refusal_of}
+use Rattle.joining.specs.Pieces.{part_in, JoinAfter, join_step}
+use Rattle.relation.specs.Relation.{relation_to, related}
+use Rattle.body_tests.specs.Refusals.{refusal_of, refused_by}
 use Rattle.collection.proofs.begin.Reads as begin_contract
 use Rattle.held.proofs.is_of.Reads as is-of
+use Rattle.joining.proofs.piece_in.Reads as piece_in_contract
 use Rattle.joining.proofs.join_pieces.Reads as join_pieces_contract
 use Rattle.relation.proofs.relate.Reads as relate_contract
 use Rattle.body_tests.proofs.refuse.Reads as refuse_contract
@@ -46,14 +48,17 @@ begin_gives κs a x s h = h
 pub is_of_gives : (κs : Lfts 0) → Gives answer (is-of.Post κs) (λ a. is_of a.0 a.1.0 a.1.1.0)
 is_of_gives κs a x s h = h
 
+pub piece_in_gives : (κs : Lfts 1) → Gives {L = Part} (λ x s. part x.ref_ptr x.now) (piece_in_contract.Post κs) (λ a. part_in (part a.0.ref_ptr a.0.now) a.1.0 a.1.1.0)
+piece_in_gives κs a x s h = h
+
 pub join_pieces_gives : (κs : Lfts 2) → Gives {L = JoinAfter} (λ x s. record { size = x; join = s.1.0.now }) (join_pieces_contract.Post κs)
     (λ a. join_step a.0.now a.1.0.now a.1.1.0 a.1.1.1.0)
 join_pieces_gives κs a x s h = h
 
-pub relate_gives : (κs : Lfts 2) → Gives answer (relate_contract.Post κs) (λ a. relation_to a.0 a.1.0.now a.1.1.0 a.1.1.1.0 a.1.1.1.1.0 a.1.1.1.1.1.0.now)
+pub relate_gives : (κs : Lfts 2) → Gives (λ x s. related x) (relate_contract.Post κs) (λ a. relation_to a.0 a.1.0.now a.1.1.0 a.1.1.1.0 a.1.1.1.1.0 a.1.1.1.1.1.0.now)
 relate_gives κs a x s h = h
 
-pub refuse_gives : (κs : Lfts 1) → Gives answer (refuse_contract.Post κs) (λ a. refusal_of a.0 a.1.0 a.1.1.0.now)
+pub refuse_gives : (κs : Lfts 1) → Gives (λ x s. refused_by x) (refuse_contract.Post κs) (λ a. refusal_of a.0 a.1.0 a.1.1.0.now)
 refuse_gives κs a x s h = h
 
 -- ---- packets

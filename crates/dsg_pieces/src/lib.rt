@@ -62,9 +62,9 @@ fn collected_from(answer: Answer, number: u8) -> Collected
     ensures { result ≡ collected_of (said answer) number }
 {
     match answer {
-        Answer::Refused(n) => Collected {
+        Answer::Refused(refusal) => Collected {
             kind: 0,
-            number: n as u32,
+            number: refusal.number() as u32,
             empty: 0,
             start: 0,
             length: 0,
@@ -163,9 +163,9 @@ fn received_from(report: Report) -> Received
     ensures { result ≡ received_of (told report) }
 {
     match report {
-        Report::BodyRefused(n) => Received {
+        Report::BodyRefused(refusal) => Received {
             kind: 0,
-            number: n as u32,
+            number: refusal.number() as u32,
             empty: 0,
             offset: 0,
         },

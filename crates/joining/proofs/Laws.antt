@@ -1,47 +1,29 @@
 -- Laws of the pieces in the slot buffer, and joined (specs/Pieces.antt).
 --
---   part_cut, piece_at_cut            a part, and a piece, cut where the list ends
 --   length_piece_at, length-joined    a piece as long as its slot says; the joined pieces at most n x 1,497
+--   piece_lent                        the piece that is lent
 --   joined-more, joined_into-more     one turn of the loop that joins
 --   join_step-most                    there are sixteen slots for any greater number
 --   joined_into-room, join_step-room   where all has room: what is joined, and the rest of the buffer as it was
 --   piece_at_same, piece_at_other      the slots after a piece is stored
 -- Trusts: nothing.
-use Prim.Native.Nat.{ℕ, zero, suc, ◌+◌, ◌*◌, ◌-◌, ◌≤◌, ◌<◌, min}
+use Prim.Native.Nat.{ℕ, zero, suc, ◌+◌, ◌*◌, ◌≤◌, ◌<◌, min}
 use mathlib.Core.Path.{◌≡◌, refl, sym, ap, ◌∙◌}
 use mathlib.Core.List.{List, [], ◌++◌, append_assoc, append-nil}
 use mathlib.Core.Logic.{◌⊎◌, inl, inr, ⊎_elim}
 use native.Mathlib.Omega.{arith}
 use native.Mathlib.Nat.{add-zero}
-use lib.ListN.{length, get_or, set, take, drop, length-append, length-take, length-drop, take-append-drop, drop_of_length-le, get_or-eq_default}
-use lib.Seq.{length-take-le, take_all, drop-append-add, drop-drop, take_at, get_or-set_same, get_or-set_other}
+use lib.ListN.{length, get_or, set, take, drop, length-append, length-take, length-drop, take-append-drop, get_or-eq_default}
+use lib.Seq.{length-take-le, drop-append-add, drop-drop, take_at, get_or-set_same, get_or-set_other}
 use Rattle.wire.specs.Bytes.{pasted}
+use Rattle.wire.specs.Parts.{Part, part}
 use Rattle.wire.proofs.Laws.{pasted-fits, pasted_not, part-pasted, part-pasted-before, part-pasted-behind}
-use Rattle.joining.specs.Pieces.{piece_at, joined, joined_into, JoinAfter, join_step}
+use Rattle.joining.specs.Pieces.{piece_at, part_in, joined, joined_into, JoinAfter, join_step}
 
 order : (x y : ℕ) → (x ≤ y) ⊎ (y < x)
 order zero y = inl (omega arith)
 order (suc x) zero = inr (omega arith)
 order (suc x) (suc y) = ⊎_elim (λ h. inl (omega arith)) (λ h. inr (omega arith)) (order x y)
-
--- ---- a part cut where the list ends
-
-take-cut : (n : ℕ) (l : List ℕ) → take (min n (length l)) l ≡ take n l
-take-cut n l = go (order n (length l)) where
-  go : (n ≤ length l) ⊎ (length l < n) → take (min n (length l)) l ≡ take n l
-  go (inl h) = let e : min n (length l) ≡ n = omega arith in rw e refl
-  go (inr h) = take_all (min n (length l)) l (omega arith) ∙ sym (take_all n l (omega arith))
-
-part_cut : (l : List ℕ) (a n f t : ℕ) → f ≡ min a (length l) → t ≡ min (a + n) (length l) → take (t - f) (drop f l) ≡ take n (drop a l)
-part_cut l a n f t ef et = go (order a (length l)) where
-  go : (a ≤ length l) ⊎ (length l < a) → take (t - f) (drop f l) ≡ take n (drop a l)
-  go (inl h) =
-      let e : f ≡ a = omega arith in
-      let m : t - f ≡ min n (length (drop a l)) = omega (arith, length-drop a l) in
-      rw (m, e) (take-cut n (drop a l))
-  go (inr h) =
-      let m : t - f ≡ 0 = omega arith in
-      rw (m, drop_of_length-le l {i = a} (omega arith)) (sym (take_all n [] (omega arith)))
 
 -- ---- the pieces in the slot buffer, joined
 
@@ -59,24 +41,20 @@ length-joined slots lens zero h = omega arith
 length-joined slots lens (suc n) h =
     simp length-append (omega (arith, length-joined slots lens n (λ k q. h k (omega arith)), length_piece_at_le slots lens n, h n (omega arith)))
 
--- a piece, cut where the slot buffer ends
-pub piece_at_cut : (slots lens : List ℕ) (k f t : ℕ) → f ≡ min (k * 1500) (length slots) → t ≡ min (k * 1500 + get_or lens k 0) (length slots)
-    → take (t - f) (drop f slots) ≡ piece_at slots lens k
+-- the piece in slot k, as `piece_in` lends it
+pub piece_lent : (slots lens : List ℕ) (k : ℕ) (at : ℕ × ℕ) {x : Part} → x ≡ part_in (part at slots) k (get_or lens k 0) → x.bytes ≡ piece_at slots lens k
 unfolding piece_at
-piece_at_cut slots lens k f t ef et = part_cut slots (k * 1500) (get_or lens k 0) f t ef et
+piece_lent slots lens k at e = ap (λ (y : Part). y.bytes) e
 
--- a turn of the loop that joins: the piece of slot k, cut where the slot buffer ends, at the place that the pieces before it leave
-module _ (slots lens join : List ℕ) (k f t : ℕ) (ef : f ≡ min (k * 1500) (length slots)) (et : t ≡ min (k * 1500 + get_or lens k 0) (length slots)) where
-  pub joined-more : (a : ℕ) → a ≡ length (joined slots lens k) → a + (t - f) ≡ length (joined slots lens (suc k))
+-- a turn of the loop that joins: the piece of slot k at the place that the pieces before it leave
+module _ (slots lens join : List ℕ) (k : ℕ) (p : List ℕ) (e : p ≡ piece_at slots lens k) where
+  pub joined-more : (a : ℕ) → a ≡ length (joined slots lens k) → a + length p ≡ length (joined slots lens (suc k))
   unfolding joined
-  joined-more a e =
-      let m : length (take (t - f) (drop f slots)) ≡ t - f = length-take-le (t - f) (drop f slots) (omega (arith, length-drop f slots)) in
-      omega (arith, e, m, ap length (piece_at_cut slots lens k f t ef et), length-append (joined slots lens k) (piece_at slots lens k))
+  joined-more a g = rw (e, g) (sym (length-append (joined slots lens k) (piece_at slots lens k)))
 
-  pub joined_into-more : (b : List ℕ) (a : ℕ) → b ≡ joined_into join slots lens k → a ≡ length (joined slots lens k)
-      → pasted b a (take (t - f) (drop f slots)) ≡ joined_into join slots lens (suc k)
+  pub joined_into-more : (b : List ℕ) (a : ℕ) → b ≡ joined_into join slots lens k → a ≡ length (joined slots lens k) → pasted b a p ≡ joined_into join slots lens (suc k)
   unfolding joined_into
-  joined_into-more b a e g = rw (e, g, piece_at_cut slots lens k f t ef et) refl
+  joined_into-more b a f g = rw (f, g, e) refl
 
 -- ---- a slot beyond the lengths has no bytes
 

@@ -13,6 +13,7 @@
 -- Tested by: the samples of examples/bodies; bodies and messages against the other program in host/.
 -- Trusts: nothing.
 use Rattle.std.specs.Prelude.{ℕ, List}
+use Rattle.refusals.specs.Refusals.{number_of}
 use Rattle.table.specs.declared.Table.{Table}
 use Rattle.collection.specs.declared.Collection.{Collection}
 use Rattle.collector.specs.Answers.{Said, lent_of}
@@ -33,7 +34,7 @@ pub data Told : Type 0 where
   dropped : ℕ → Told
 
 abbrev pub told : Report → Told
-told (BodyRefused n) = body_refused n
+told (BodyRefused r) = body_refused (number_of r)
 told Repeat = again
 told (Waiting k) = waiting k
 told Accepted = accepted

@@ -14,13 +14,14 @@ ghost use Rattle.receiver.specs.Receive.{told, reported, taken, receive_step};
 use collection::Collection;
 use collector::{Answer, Outcome};
 use reader::{Reading, Verdict};
+use refusals::Refusal;
 use table::Table;
 
 // What a body is answered.
 #[derive(Clone, Copy)]
 pub enum Report {
-    // The body is refused, 1 to 5; all that is lent is as it was.
-    BodyRefused(u8),
+    // The body is refused, by one of tests 1 to 5; all that is lent is as it was.
+    BodyRefused(Refusal),
     // Its slot has these bytes already; nothing changes.
     Repeat,
     // Stored; so many slots are empty.
@@ -86,8 +87,8 @@ fn take_up(outcome: Outcome, table: Table, body: &[u8], join: &[u8]) -> Received
     let answer = outcome.answer;
     let held = outcome.held;
     match answer {
-        Answer::Refused(number) => Received {
-            report: Report::BodyRefused(number),
+        Answer::Refused(refusal) => Received {
+            report: Report::BodyRefused(refusal),
             held,
             table,
         },

@@ -1,6 +1,7 @@
 -- Relation: how a piece stands to what is held (document 01, "Collecting pieces").
 --
 --   goes_on, repeats, anew      the three answers
+--   related answer              which of them an answer is
 --   relation_to r slots count number k piece    the answer for a piece of a message of this count and number that belongs in slot k:
 --                              goes_on where the record holds that collection and the slot is empty, repeats where the slot has these
 --                              bytes, else anew
@@ -13,6 +14,8 @@ use Rattle.compare.specs.Compare.{same_bytes}
 use Rattle.collection.specs.declared.Collection.{Collection}
 use Rattle.held.specs.Held.{is_filled, is_of}
 use Rattle.joining.specs.Pieces.{piece_at}
+use Rattle.relation.specs.declared.Relation.{Relation}
+use Rattle.relation.specs.declared.Relation.TheVariants.{GoesOn, Repeats, Anew}
 
 abbrev pub goes_on : ℕ
 goes_on = 0
@@ -22,6 +25,11 @@ repeats = 1
 
 abbrev pub anew : ℕ
 anew = 2
+
+abbrev pub related : Relation → ℕ
+related GoesOn = goes_on
+related Repeats = repeats
+related Anew = anew
 
 unfoldable pub relation_to : Collection → List ℕ → ℕ → ℕ → ℕ → List ℕ → ℕ
 relation_to r slots count number k piece =

@@ -5,44 +5,42 @@
 // cut where the slot buffer ends. It writes nothing.
 #![tactic(auto)]
 
-ghost use Rattle.std.specs.Prelude.{◌≡◌, min};
-ghost use Rattle.relation.specs.Relation.{relation_to};
+ghost use Rattle.std.specs.Prelude.{◌≡◌};
+ghost use Rattle.relation.specs.Relation.{relation_to, related};
 
 use collection::Collection;
 
-// The three answers.
-pub const GOES_ON: u8 = 0;
-
-pub const REPEATS: u8 = 1;
-
-pub const ANEW: u8 = 2;
-
-// A place, or the most that it may be.
-fn cut(at: usize, most: usize) -> usize
-    ensures { result ≡ min at most }
-{
-    if most < at { most } else { at }
+// How a piece stands to what is held.
+#[derive(Clone, Copy, PartialEq, Eq)]
+pub enum Relation {
+    // Its message is held, and its slot is empty.
+    GoesOn,
+    // Its message is held, and its slot has these bytes.
+    Repeats,
+    // Another message is held, or none, or its slot has other bytes.
+    Anew,
 }
 
 // How a piece for slot `k`, of a message of this count and number, stands to what is held.
-pub fn relate(held: Collection, slots: &[u8], count: u8, number: u8, k: usize, piece: &[u8]) -> u8
-    ensures { result ≡ relation_to held slots.now count number k piece.now }
+#[tactic(auto, using(std::proofs::lemmas::Bool::Decides::nat_tests), unfolding(crate::specs::Relation::relation_to, joining::specs::Pieces::piece_at))]
+pub fn relate(
+    held: Collection,
+    slots: &[u8],
+    count: u8,
+    number: u8,
+    k: usize,
+    piece: &[u8],
+) -> Relation
+    ensures { related result ≡ relation_to held slots.now count number k piece.now }
 {
     if !held::is_of(held, count, number) {
-        return ANEW;
+        return Relation::Anew;
     }
-    if joining::SLOTS <= k {
-        return GOES_ON;
+    if joining::SLOTS <= k || held.filled[k] != 1 {
+        return Relation::GoesOn;
     }
-    if held.filled[k] != 1 {
-        return GOES_ON;
+    if compare::same_bytes(joining::piece_in(slots, k, held.lengths[k]), piece) {
+        return Relation::Repeats;
     }
-    let len = held.lengths[k] as usize;
-    let begin = k * joining::SLOT_BYTES;
-    let from = cut(begin, slots.len());
-    let to = cut(begin + len, slots.len());
-    if compare::same_bytes(&slots[from..to], piece) {
-        return REPEATS;
-    }
-    ANEW
+    Relation::Anew
 }

@@ -1,80 +1,57 @@
--- `collector::collect` gives `collect_step`: what its callees ensure is put together by the laws of LawsStep, one for each answer.
+-- `collector::collect` gives `collect_step`: what its callees ensure is put together by the laws of LawsStep.
 -- Trusts: nothing.
-use mathlib.Core.Path.{◌≡◌, refl, sym, ap, ◌∙◌}
-use mathlib.Core.List.{List}
-use native.Mathlib.Omega.{arith}
-use Prim.Native.Nat.{ℕ, ◌≤◌}
-use lib.ListN.{length, length-drop}
-use Rattle.wire.proofs.Laws.{rest_all}
-use Rattle.body_tests.specs.Refusals.{Fits, count_of, number_of, slot_of, refusal_of}
-use Rattle.body_tests.proofs.Laws.{refusal_of-room, fits_of}
-use Rattle.relation.specs.Relation.{relation_to}
+use Rattle.std.proofs.Common.{◌≡◌, ℕ, sym, ◌∙◌, arith, Result, Ok}
+use lib.ListN.{length-drop}
+use Rattle.refusals.specs.declared.Refusal.{Refusal}
+use Rattle.relation.specs.Relation.{repeats}
+use Rattle.body_tests.specs.Refusals.{refused_by}
+use Rattle.body_tests.proofs.Laws.{fits_of, refusal_of-room, refused_some}
 use Rattle.collector.specs.Step.{relation_of}
-use Rattle.collector.specs.Duties.{begun, stored_step}
-use Rattle.collector.proofs.LawsStep.{step_refused, step_again, step_stored, from_number, from_short}
+use Rattle.collector.proofs.LawsStep.{base, relation_by, base_goes_on, base-anew, base_of_number, base_of_short, step_refused, step_again, step_stored}
 use Rattle.collector.proofs.collect.Goals as goal
+use Rattle.collector.proofs.collect.Goals.{in-GoesOn, in-Anew}
 
--- a body that no test refuses has its three bytes
-passed : (n slots join : ℕ) (body : List ℕ) → n ≡ refusal_of slots join body → n ≡ 0 → Fits body
-passed n slots join body e z = fits_of _ (refusal_of-room _ _ _ (sym e ∙ z)).2
+-- nothing is refused
+passed : {x : Result (Unit {0}) Refusal} {n : ℕ} (y : Unit {0}) → x ≡ Ok y → refused_by x ≡ n → n ≡ 0
+passed y e g = rw e at (sym g)
 
--- ---- the three ways out
-pub returns-then-refusal-ne0 : goal.returns-then-refusal-ne0
-returns-then-refusal-ne0 c = step_refused _ _ _ _ _ c.refuse-refusal.ensures c.if-refusal-ne0.true
+pub returns-in-Err : goal.returns-in-Err
+returns-in-Err c = step_refused _ _ _ _ _ c.in-Err.ensures (refused_some c.in-Err.refusal)
 
-pub bounds-body-0 : goal.bounds-body-0
-bounds-body-0 c = omega (arith, passed _ _ _ _ c.refuse-refusal.ensures c.if-refusal-ne0.false)
+pub read_parts-piece-requires : goal.read_parts-piece-requires
+read_parts-piece-requires c = fits_of _ (refusal_of-room _ _ _ (passed _ c.in_default.is c.refuse.ensures)).2
 
-pub bounds-body-1 : goal.bounds-body-1
-bounds-body-1 c = omega (arith, passed _ _ _ _ c.refuse-refusal.ensures c.if-refusal-ne0.false)
-
-pub bounds-body-2 : goal.bounds-body-2
-bounds-body-2 c = omega (arith, passed _ _ _ _ c.refuse-refusal.ensures c.if-refusal-ne0.false)
-
-pub overflow_sub-k : goal.overflow_sub-k
-overflow_sub-k c = omega (arith, passed _ _ _ _ c.refuse-refusal.ensures c.if-refusal-ne0.false)
-
-pub slice_bounds-piece-count : goal.slice_bounds-piece-count
-slice_bounds-piece-count c = omega (arith, passed _ _ _ _ c.refuse-refusal.ensures c.if-refusal-ne0.false)
-
-pub slice_bounds-piece-start : goal.slice_bounds-piece-start
-slice_bounds-piece-start c = omega (arith, passed _ _ _ _ c.refuse-refusal.ensures c.if-refusal-ne0.false)
-
-pub returns-then-how-eq-REPEATS : goal.returns-then-how-eq-REPEATS
-returns-then-how-eq-REPEATS c =
-    let a = c.args in
-    let b = a.body.now in
-    let ok : refusal_of (length a.slots.now) (length a.join.now) b ≡ 0 = sym c.refuse-refusal.ensures ∙ c.if-refusal-ne0.false in
-    let how : c.relate-how.result ≡ relation_of a.held a.slots.now b =
-    c.relate-how.ensures ∙ ap (λ (l : List ℕ). relation_to a.held a.slots.now (count_of b) (number_of b) (slot_of b) l) (rest_all b 3) in
-    step_again _ _ _ _ ok _ how c.if-how-eq-REPEATS.true
+pub returns-in-Repeats : goal.returns-in-Repeats
+returns-in-Repeats c =
+    step_again _ _ _ _ (passed _ c.in_default.is c.refuse.ensures) (relation_by _ _ _ c.read_parts-piece.ensures c.in-Repeats.ensures)
 
 pub accept-requires : goal.accept-requires
 accept-requires c =
     let a = c.args in
-    let b = a.body.now in
-    let ok : refusal_of (length a.slots.now) (length a.join.now) b ≡ 0 = sym c.refuse-refusal.ensures ∙ c.if-refusal-ne0.false in
-    let fits = passed _ _ _ _ c.refuse-refusal.ensures c.if-refusal-ne0.false in
-    let how : c.relate-how.result ≡ relation_of a.held a.slots.now b =
-    c.relate-how.ensures ∙ ap (λ (l : List ℕ). relation_to a.held a.slots.now (count_of b) (number_of b) (slot_of b) l) (rest_all b 3) in
-    let room : 24000 ≤ length a.join.now = (refusal_of-room _ _ _ ok).1 in
-    let number = from_number a.held a.slots.now a.join.now b ok _ how c.if-how-eq-REPEATS.false _ refl in
-    let short = from_short a.held a.slots.now a.join.now b ok _ how c.if-how-eq-REPEATS.false _ refl in
-    let long = ap length (rest_all b 3) ∙ length-drop 3 b in
+    let ok = passed _ c.in_default.is c.refuse.ensures in
+    let room = refusal_of-room _ _ _ ok in
+    let fits = fits_of _ room.2 in
+    let of' = c.read_parts-piece.ensures in
+    let begun : c.match-relate.begun ≡ base a.held a.slots.now a.body.now = elim c.match-relate.branch [
+      | in-GoesOn w ↦ w.begun-is ∙ base_goes_on _ _ _ of' w.in-GoesOn.ensures
+      | in-Anew w ↦ w.begun-is ∙ w.begin-begun.ensures ∙ base-anew _ _ _ of' w.in-Anew.ensures
+    ] in
     record {
-      k_bound = (omega (arith, fits), omega (arith, fits, long));
-      number_bound = (omega (arith, fits, number), room);
-      by_index = short;
+      slot = (omega arith, rw of'.rest (omega (arith, length-drop 3 a.body.now)));
+      room = (rw begun (omega (arith, fits, base_of_number a.held a.slots.now a.body.now)), room.1);
+      short = rw begun (base_of_short a.held a.slots.now a.body.now);
     }
 
 pub returns : goal.returns
 returns c =
     let a = c.args in
-    let b = a.body.now in
-    let ok : refusal_of (length a.slots.now) (length a.join.now) b ≡ 0 = sym c.refuse-refusal.ensures ∙ c.if-refusal-ne0.false in
-    let how : c.relate-how.result ≡ relation_of a.held a.slots.now b =
-    c.relate-how.ensures ∙ ap (λ (l : List ℕ). relation_to a.held a.slots.now (count_of b) (number_of b) (slot_of b) l) (rest_all b 3) in
-    let from = begun c.relate-how.result a.held (count_of b) (number_of b) in
-    c.accept.ensures
-    ∙ ap (λ (l : List ℕ). stored_step from a.slots.now a.join.now (slot_of b) l) (rest_all b 3)
-    ∙ step_stored a.held a.slots.now a.join.now b ok _ how c.if-how-eq-REPEATS.false from refl
+    let of' = c.read_parts-piece.ensures in
+    let begun : c.match-relate.begun ≡ base a.held a.slots.now a.body.now = elim c.match-relate.branch [
+      | in-GoesOn w ↦ w.begun-is ∙ base_goes_on _ _ _ of' w.in-GoesOn.ensures
+      | in-Anew w ↦ w.begun-is ∙ w.begin-begun.ensures ∙ base-anew _ _ _ of' w.in-Anew.ensures
+    ] in
+    let other : relation_of a.held a.slots.now a.body.now ≡ repeats → ⊥ = λ e. elim c.match-relate.branch [
+      | in-GoesOn w ↦ omega (arith, relation_by _ _ _ of' w.in-GoesOn.ensures)
+      | in-Anew w ↦ omega (arith, relation_by _ _ _ of' w.in-Anew.ensures)
+    ] in
+    rw (begun, of'.slotted, of'.rest) at c.accept.ensures ∙ step_stored _ _ _ _ (passed _ c.in_default.is c.refuse.ensures) other

@@ -1,14 +1,13 @@
 -- `joining::join_pieces` gives `join_step`. The loop's invariant: the join buffer has the pieces of the first `k` slots, and `at` is their
--- length; what falls is the number of slots less `k`.
+-- length.
 -- Trusts: nothing.
-use mathlib.Core.Path.{◌≡◌}
-use Prim.Native.Nat.{◌-◌, ◌*◌, ◌≤◌}
-use lib.ListN.{length}
+use Rattle.std.proofs.Common.{◌≡◌, ◌*◌, ◌≤◌, length}
 use Rattle.joining.specs.Pieces.{joined, joined_into}
 use Rattle.joining.proofs.join_pieces.Given as goal
 
 abbrev pub invariant-loop-k : goal.invariant-loop-k
-invariant-loop-k l = (l.k ≤ l.count) × (l.count ≤ 16) × (l.at ≤ l.k * 65535) × (length l.join ≡ length l.initial.join) × (l.at ≡ length (joined l.slots l.lengths l.k)) × (l.join ≡ joined_into l.initial.join l.slots l.lengths l.k)
-
-abbrev pub decreases-loop-k : goal.decreases-loop-k
-decreases-loop-k l = l.count - l.k
+invariant-loop-k l = record {
+  few : l.at ≤ l.k * 65535;
+  size : l.at ≡ length (joined l.slots l.lengths l.k);
+  bytes : l.join ≡ joined_into l.initial.join l.slots l.lengths l.k;
+}
