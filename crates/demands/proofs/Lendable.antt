@@ -7,10 +7,10 @@
 -- That what is owned has such values is the logic's `shows` (denote, Laws.antt): owning r at vs shows `Is` of them, for every type, in every model.
 -- Trusts: nothing.
 use Prim.Native.Nat.{ℕ, zero, suc, ◌^◌, ◌≤◌, ◌<◌}
-use mathlib.Core.Path.{◌≡◌, refl, sym, ◌∙◌}
+use mathlib.Core.Path.{◌≡◌, refl}
 use mathlib.Core.List.{List}
 use native.Mathlib.Omega.{arith}
-use lib.ListN.{length, replicate, length-map}
+use lib.ListN.{length, replicate}
 use mir.Syntax.{Width, w8, w16}
 use mir.Val.{Val, vint, bits}
 use denote.Shadow.{shadow}

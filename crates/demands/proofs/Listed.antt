@@ -1,25 +1,23 @@
 -- Listed: document 01's example of `dcdlist`, from the body to the text: `07 01 01`, then M, is listed as the five lines that it shows.
 --
 -- The text is `body_text` of the definitions; that dcdlist writes it is the contract of bodies::list_body, and what the built program writes for
--- this body is compared at lines_of check.
+-- this body is compared at each check.
 -- Trusts: nothing.
 use Prim.Native.Nat.{ℕ}
 use mathlib.Core.Path.{◌≡◌, refl, ap, ◌∙◌}
 use mathlib.Core.Bool.{false}
 use mathlib.Core.List.{List, [], ◌∷◌}
-use lib.ListN.{get_or, replicate}
 use Rattle.compare.specs.Compare.{same_bytes}
-use Rattle.table.specs.Table.{empty_table, limited_to, rules_of, classifiers_of, channels_of, clients_of, numbers_of}
+use Rattle.table.specs.Table.{empty_table, rules_of, classifiers_of, channels_of, clients_of, numbers_of}
 use Rattle.collector.specs.Answers.{complete}
 use Rattle.body_tests.specs.Refusals.{body_refusal}
 use Rattle.collector_demands.specs.Runs.{accepts, lookup, continues, run_from, missing, message, judged, Reply, reply, reply_from, reply_of}
 use Rattle.collector_demands.proofs.Bench.{M}
-use Rattle.reader.specs.Read.{read_table}
 use Rattle.reader.specs.declared.Reading.{Reading}
 use Rattle.reader.proofs.Bench.{table_m}
 use Rattle.receiver.specs.Receive.{reported, taken}
-use Rattle.texts.specs.Text.{ascii, digit, decimal, decimal_in, hexadecimal, field, address}
-use Rattle.listing.specs.Text.{sizes_line, rule_line, classifier_line, channel_line, timers_line, lines_of, table_text}
+use Rattle.texts.specs.Text.{ascii, digit, decimal, decimal_in, hexadecimal, field, address, each}
+use Rattle.listing.specs.Text.{sizes_line, rule_line, classifier_line, channel_line, timers_line, table_text}
 use Rattle.bodies.specs.Body.{report_text, body_text}
 use Rattle.bodies.proofs.Laws.{body_text-reply}
 use Rattle.demands.proofs.Starred.{read_M}
@@ -34,7 +32,7 @@ collected = refl
 
 text-M : table_text 7 table_m
     ≡ ascii "dcd 7 rules 2 classifiers 0 channels 1\nrule 5 priority 80 tunnel 01005e050505 clients 1 classifiers 0\nrule 6 priority 9 tunnel 01005e060606 clients 1 classifiers 0\nchannel 603000000\ntimers 2 600 300 1800\n"
-unfolding rules_of classifiers_of channels_of clients_of numbers_of digit decimal decimal_in hexadecimal field address sizes_line rule_line classifier_line channel_line timers_line lines_of table_text
+unfolding rules_of classifiers_of channels_of clients_of numbers_of digit decimal decimal_in hexadecimal field address sizes_line rule_line classifier_line channel_line timers_line each table_text
 text-M = refl
 
 pub listed_M : body_text whole_m

@@ -2,7 +2,6 @@
 -- input; and that each contract admits one answer only, as OneAnswer says it.
 -- Trusts: nothing.
 use Prim.Native.Nat.{◌+◌}
-use mathlib.Core.List.{List}
 use contract.Lifetimes.{Lfts}
 use lib.ListN.{take}
 use lib.Dec.{leb}

@@ -8,8 +8,8 @@ use Rattle.table.specs.declared.Rule.{Rule}
 use Rattle.table.specs.declared.Classifier.{Classifier}
 use Rattle.table.specs.declared.Table.{Table}
 use Rattle.table.specs.Table.{rules_of, classifiers_of, channels_of, clients_of, numbers_of, empty_client, empty_rule, empty_classifier, default_timers}
-use Rattle.texts.specs.Text.{ascii, digit, decimal, decimal_in, hexadecimal, field, address}
-use Rattle.listing.specs.Text.{sizes_line, rule_line, classifier_line, channel_line, timers_line, lines_of, table_text}
+use Rattle.texts.specs.Text.{ascii, digit, decimal, decimal_in, hexadecimal, field, address, each}
+use Rattle.listing.specs.Text.{sizes_line, rule_line, classifier_line, channel_line, timers_line, table_text}
 
 -- a rule of message M: application 42, no classifier, no UCID list
 pub rule_of : ℕ → ℕ → ℕ → Rule
@@ -38,5 +38,5 @@ classifier10 =
 pub listed : (table_text 7 table_m ∷ classifier_line classifier10 ∷ [])
     ≡ (ascii "dcd 7 rules 2 classifiers 0 channels 1\nrule 5 priority 80 tunnel 01005e050505 clients 1 classifiers 0\nrule 6 priority 9 tunnel 01005e060606 clients 1 classifiers 0\nchannel 603000000\ntimers 2 600 300 1800\n"
     ∷ ascii "classifier 10 priority 1\n" ∷ [])
-unfolding rule_of table_m classifier10 rules_of classifiers_of channels_of clients_of numbers_of digit decimal decimal_in hexadecimal field address sizes_line rule_line classifier_line channel_line timers_line lines_of table_text
+unfolding rule_of table_m classifier10 rules_of classifiers_of channels_of clients_of numbers_of digit decimal decimal_in hexadecimal field address sizes_line rule_line classifier_line channel_line timers_line each table_text
 listed = refl

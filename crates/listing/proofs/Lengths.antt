@@ -1,13 +1,19 @@
 -- How long a line can be (specs/Text.antt): sizes_line-short 44, rule_line-short 66, classifier_line-short 30, channel_line-short 19, timers_line-short 31.
+-- The lines of a list are as long as its limit allows: lined_listed.
 -- Trusts: nothing.
-use Prim.Native.Nat.{ℕ, ◌^◌, ◌<◌}
+use Prim.Native.Nat.{ℕ, ◌*◌, ◌^◌, ◌≤◌, ◌<◌}
+use mathlib.Core.Path.{◌≡◌, subst}
+use mathlib.Core.List.{List}
+use native.Mathlib.Nat.{mul-le-mul_left}
+use lib.ListN.{length}
 use Rattle.table.specs.declared.Rule.{Rule}
 use Rattle.table.specs.declared.Classifier.{Classifier}
 use Rattle.table.specs.declared.TimerValues.{TimerValues}
 use Rattle.table.specs.declared.Table.{Table}
 use Rattle.table.proofs.Laws.{length-rules_of_le, length-classifiers_of_le, length-channels_of_le, length-clients_of_le, length-numbers_of_le}
-use Rattle.texts.specs.Writing.{Short}
-use Rattle.texts.proofs.Lengths.{join-short, end_short, field-short, address-short, count-short}
+use Rattle.texts.specs.Text.{each}
+use Rattle.texts.specs.Writing.{Short, Lined}
+use Rattle.texts.proofs.Lengths.{join-short, end_short, field-short, address-short, count-short, lined-most}
 use Rattle.listing.specs.Text.{sizes_line, rule_line, classifier_line, channel_line, timers_line}
 
 pub sizes_line-short : (count : ℕ) (t : Table) → count < 256 → Short 44 (sizes_line count t)
@@ -40,3 +46,9 @@ module _ (v : TimerValues) where
   unfolding timers_line
   timers_line-short a b c d =
       join-short 12 19 (field-short _ 4 a tt) (join-short 6 13 (field-short _ 4 b tt) (join-short 6 7 (field-short _ 4 c tt) (join-short 6 1 (field-short _ 4 d tt) (end_short _))))
+
+pub lined_listed : {A : Type 0} (most limit : ℕ) (line : A → List ℕ) {xs l : List A} {out new : List ℕ} {at next : ℕ} → xs ≡ l → length l ≤ limit
+    → Lined (most * length xs) out at (each line xs) new next → Lined (most * limit) out at (each line l) new next
+lined_listed {A} most limit line {xs} {l} {out} {new} {at} {next} same few w =
+    lined-most (most * length l) (most * limit) (mul-le-mul_left {m = length l} {n = limit} most few)
+    (subst (λ (x : List A). Lined (most * length x) out at (each line x) new next) same w)

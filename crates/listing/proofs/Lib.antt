@@ -1,10 +1,8 @@
 -- Lengths: how long a line can be.
 -- Halves: the lines as they are written, two fields at a time.
--- Turns: a loop that writes a line for each entry of a list.
 -- Longest: how large a buffer always suffices.
 -- Bench: document 01's examples, computed.
 pub mod Lengths
 pub mod Halves
-pub mod Turns
 pub mod Longest
 pub mod Bench

@@ -16,10 +16,10 @@ use Rattle.table.specs.declared.Classifier.{Classifier}
 use Rattle.table.specs.declared.Table.{Table}
 use Rattle.table.specs.Table.{rules_of, classifiers_of, channels_of, clients_of, numbers_of, empty_client, empty_rule, empty_classifier}
 use Rattle.table.proofs.Laws.{length-rules_of_le, length-classifiers_of_le, length-channels_of_le}
-use Rattle.texts.specs.Text.{digit, decimal, decimal_in, hexadecimal, field, address}
+use Rattle.texts.specs.Text.{digit, decimal, decimal_in, hexadecimal, field, address, each}
 use Rattle.texts.specs.Writing.{Short}
 use Rattle.texts.proofs.Lengths.{join-short}
-use Rattle.listing.specs.Text.{sizes_line, rule_line, classifier_line, channel_line, timers_line, lines_of, table_text}
+use Rattle.listing.specs.Text.{sizes_line, rule_line, classifier_line, channel_line, timers_line, table_text}
 use Rattle.listing.proofs.Lengths.{sizes_line-short, rule_line-short, classifier_line-short, channel_line-short, timers_line-short}
 
 pub record Ranged (count : ℕ) (t : Table) : Type 0 where
@@ -34,14 +34,14 @@ pub record Ranged (count : ℕ) (t : Table) : Type 0 where
   pub tdsg3 : t.timers.tdsg3 < 65536
   pub tdsg4 : t.timers.tdsg4 < 65536
 
--- as many lines as the list has entries, lines_of of at most `most` bytes
-lines_of-short : {A : Type 0} (most : ℕ) (line : A → List ℕ) (d : A) (l : List A) (limit : ℕ)
-    → length l ≤ limit → ((i : ℕ) → i < length l → Short most (line (get_or l i d))) → Short (most * limit) (lines_of line l)
-unfolding lines_of
-lines_of-short most line d [] limit few h = record { bytes = omega arith }
-lines_of-short most line d (x ∷ xs) zero few h = absurd (omega arith)
-lines_of-short most line d (x ∷ xs) (suc limit) few h =
-    let rest = lines_of-short most line d xs limit (omega arith) (λ i q. h (suc i) (omega arith)) in
+-- as many lines as the list has entries, each of at most `most` bytes
+each-short : {A : Type 0} (most : ℕ) (line : A → List ℕ) (d : A) (l : List A) (limit : ℕ)
+    → length l ≤ limit → ((i : ℕ) → i < length l → Short most (line (get_or l i d))) → Short (most * limit) (each line l)
+unfolding each
+each-short most line d [] limit few h = record { bytes = omega arith }
+each-short most line d (x ∷ xs) zero few h = absurd (omega arith)
+each-short most line d (x ∷ xs) (suc limit) few h =
+    let rest = each-short most line d xs limit (omega arith) (λ i q. h (suc i) (omega arith)) in
     let one = join-short most (most * limit) (h 0 (omega arith)) rest in
     record { bytes = omega (arith, one.bytes, mul-suc most limit) }
 
@@ -49,9 +49,9 @@ pub listing-fits : {count : ℕ} {t : Table} → Ranged count t → length (tabl
 unfolding table_text
 listing-fits {count} {t} r =
     let sizes = sizes_line-short count t r.change in
-    let rules = lines_of-short 66 rule_line empty_rule (rules_of t) 32 (length-rules_of_le t) (λ i q. rule_line-short _ (r.number i q) (r.priority i q)) in
-    let classifiers = lines_of-short 30 classifier_line empty_classifier (classifiers_of t) 32 (length-classifiers_of_le t) (λ i q. classifier_line-short _ (r.classifier i q) (r.rank i q)) in
-    let channels = lines_of-short 19 channel_line 0 (channels_of t) 32 (length-channels_of_le t) (λ i q. channel_line-short _ (r.channel i q)) in
+    let rules = each-short 66 rule_line empty_rule (rules_of t) 32 (length-rules_of_le t) (λ i q. rule_line-short _ (r.number i q) (r.priority i q)) in
+    let classifiers = each-short 30 classifier_line empty_classifier (classifiers_of t) 32 (length-classifiers_of_le t) (λ i q. classifier_line-short _ (r.classifier i q) (r.rank i q)) in
+    let channels = each-short 19 channel_line 0 (channels_of t) 32 (length-channels_of_le t) (λ i q. channel_line-short _ (r.channel i q)) in
     let timers = timers_line-short t.timers r.tdsg1 r.tdsg2 r.tdsg3 r.tdsg4 in
     (join-short 44 3711 sizes (join-short 2112 1599 rules (join-short 960 639 classifiers (join-short 608 31 channels timers)))).bytes
 
@@ -104,11 +104,11 @@ longest_ranged =
     }
 
 -- the lines of equal entries
-lines_of-replicate : {A : Type 0} (line : A → List ℕ) (n : ℕ) (x : A) → length (lines_of line (replicate n x)) ≡ n * length (line x)
-unfolding lines_of
-lines_of-replicate line zero x = omega arith
-lines_of-replicate line (suc n) x =
-    length-append (line x) (lines_of line (replicate n x)) ∙ ap (λ (k : ℕ). length (line x) + k) (lines_of-replicate line n x)
+each-replicate : {A : Type 0} (line : A → List ℕ) (n : ℕ) (x : A) → length (each line (replicate n x)) ≡ n * length (line x)
+unfolding each
+each-replicate line zero x = omega arith
+each-replicate line (suc n) x =
+    length-append (line x) (each line (replicate n x)) ∙ ap (λ (k : ℕ). length (line x) + k) (each-replicate line n x)
     ∙ sym (suc-mul n (length (line x)) ∙ add_comm (n * length (line x)) (length (line x)))
 
 -- the lengths of a text's five parts, computed
@@ -119,8 +119,8 @@ parts a b c d e l m n o p f g h i j = simp length-append (omega arith)
 pub listing_longest : length (table_text 255 longest) ≡ 3755
 unfolding longest longest_rule longest_classifier rules_of classifiers_of channels_of clients_of numbers_of digit decimal decimal_in hexadecimal field address sizes_line rule_line classifier_line channel_line timers_line table_text
 listing_longest =
-    let rules = lines_of-replicate rule_line 32 longest_rule in
-    let classifiers = lines_of-replicate classifier_line 32 longest_classifier in
-    let channels = lines_of-replicate channel_line 32 4294967295 in
-    parts (sizes_line 255 longest) (lines_of rule_line (rules_of longest)) (lines_of classifier_line (classifiers_of longest)) (lines_of channel_line (channels_of longest)) (timers_line longest.timers)
+    let rules = each-replicate rule_line 32 longest_rule in
+    let classifiers = each-replicate classifier_line 32 longest_classifier in
+    let channels = each-replicate channel_line 32 4294967295 in
+    parts (sizes_line 255 longest) (each rule_line (rules_of longest)) (each classifier_line (classifiers_of longest)) (each channel_line (channels_of longest)) (timers_line longest.timers)
     44 2112 960 608 31 refl rules classifiers channels refl

@@ -7,13 +7,13 @@
 -- message gives, shows its low 48 bits. A channel that no message gives is shown as it stands.
 -- Tested by: document 01's example in proofs/Bench.antt; the samples of examples/; random bodies against the other program.
 -- Trusts: nothing.
-use Rattle.std.specs.Prelude.{ℕ, List, [], ◌∷◌, ◌++◌, length}
+use Rattle.std.specs.Prelude.{ℕ, List, ◌++◌, length}
 use Rattle.table.specs.declared.Rule.{Rule}
 use Rattle.table.specs.declared.Classifier.{Classifier}
 use Rattle.table.specs.declared.TimerValues.{TimerValues}
 use Rattle.table.specs.declared.Table.{Table}
 use Rattle.table.specs.Table.{rules_of, classifiers_of, channels_of, clients_of, numbers_of}
-use Rattle.texts.specs.Text.{ascii, field, address}
+use Rattle.texts.specs.Text.{ascii, field, address, each}
 
 unfoldable pub sizes_line : ℕ → Table → List ℕ
 sizes_line count t =
@@ -33,11 +33,6 @@ unfoldable pub timers_line : TimerValues → List ℕ
 timers_line v =
     field (ascii "timers ") v.tdsg1 ++ (field (ascii " ") v.tdsg2 ++ (field (ascii " ") v.tdsg3 ++ (field (ascii " ") v.tdsg4 ++ ascii "\n")))
 
--- a line for each entry of a list
-unfoldable pub lines_of : {A : Type 0} → (A → List ℕ) → List A → List ℕ
-lines_of line [] = []
-lines_of line (x ∷ xs) = line x ++ lines_of line xs
-
 unfoldable pub table_text : ℕ → Table → List ℕ
 table_text count t =
-    sizes_line count t ++ (lines_of rule_line (rules_of t) ++ (lines_of classifier_line (classifiers_of t) ++ (lines_of channel_line (channels_of t) ++ timers_line t.timers)))
+    sizes_line count t ++ (each rule_line (rules_of t) ++ (each classifier_line (classifiers_of t) ++ (each channel_line (channels_of t) ++ timers_line t.timers)))

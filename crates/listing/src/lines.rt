@@ -4,8 +4,9 @@
 // takes, writes its text and answers the place behind it.
 ghost use Rattle.std.specs.Prelude.{[], ◌∷◌, ◌++◌, ◌+◌, ◌≤◌, length};
 ghost use Rattle.table.specs.Table.{rules_of, classifiers_of, channels_of};
+ghost use Rattle.texts.specs.Text.{each};
 ghost use Rattle.texts.specs.Writing.{Fits, Wrote, Lined};
-ghost use Rattle.listing.specs.Text.{sizes_line, rule_line, classifier_line, channel_line, timers_line, lines_of};
+ghost use Rattle.listing.specs.Text.{sizes_line, rule_line, classifier_line, channel_line, timers_line};
 ghost use Rattle.listing.specs.Writing.{fields};
 
 use table::{Classifier, Rule, Table, TimerValues};
@@ -125,47 +126,26 @@ pub(crate) fn put_timers(timers: TimerValues, out: &mut [u8], at: usize) -> usiz
 // The lines of a table's rules, 66 bytes each at most.
 pub(crate) fn put_rules(table: Table, out: &mut [u8], at: usize) -> usize
     requires { at + 2112 ≤ length out.old }
-    ensures { Lined 2112 out.old at (lines_of rule_line (rules_of table)) out.new result }
+    ensures { Lined 2112 out.old at (each rule_line (rules_of table)) out.new result }
 {
     let n = table::limited(table.rulecount, 32);
-    let mut next = at;
-    let mut i = 0;
-    while i < n {
-        let rule = table.rules[i];
-        next = put_rule(rule, out, next);
-        i += 1;
-    }
-    next
+    texts::put_each::<66, _, _>(&table.rules[..n], put_rule, out, at)
 }
 
 // The lines of a table's classifiers, 30 bytes each at most.
 pub(crate) fn put_classifiers(table: Table, out: &mut [u8], at: usize) -> usize
     requires { at + 960 ≤ length out.old }
-    ensures { Lined 960 out.old at (lines_of classifier_line (classifiers_of table)) out.new result }
+    ensures { Lined 960 out.old at (each classifier_line (classifiers_of table)) out.new result }
 {
     let n = table::limited(table.classifiercount, 32);
-    let mut next = at;
-    let mut i = 0;
-    while i < n {
-        let classifier = table.classifiers[i];
-        next = put_classifier(classifier, out, next);
-        i += 1;
-    }
-    next
+    texts::put_each::<30, _, _>(&table.classifiers[..n], put_classifier, out, at)
 }
 
 // The lines of a table's channels, 19 bytes each at most.
 pub(crate) fn put_channels(table: Table, out: &mut [u8], at: usize) -> usize
     requires { at + 608 ≤ length out.old }
-    ensures { Lined 608 out.old at (lines_of channel_line (channels_of table)) out.new result }
+    ensures { Lined 608 out.old at (each channel_line (channels_of table)) out.new result }
 {
     let n = table::limited(table.channelcount, 32);
-    let mut next = at;
-    let mut i = 0;
-    while i < n {
-        let hertz = table.channels[i];
-        next = put_channel(hertz, out, next);
-        i += 1;
-    }
-    next
+    texts::put_each::<19, _, _>(&table.channels[..n], put_channel, out, at)
 }

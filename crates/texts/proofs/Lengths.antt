@@ -3,6 +3,7 @@
 --   join-short      two texts, one behind the other        end_short         a text is as long as it is
 --   field-short     a word and a number below a bound      count-short       a word and a count
 --   address-short   a word and twelve hexadecimal digits   lined_then        two texts that are short, written one behind the other
+--   lined-most      a text that is short is no longer than more bytes
 -- Trusts: nothing.
 use Prim.Native.Nat.{ℕ, suc, ◌+◌, ◌^◌, ◌≤◌, ◌<◌}
 use mathlib.Core.Path.{ap, ◌∙◌}
@@ -44,3 +45,6 @@ lined_then {out} {at} {s} m n h v follows =
     let w = follows (omega (arith, v.wrote.place, v.short.bytes, ap length v.wrote.bytes ∙ length-pasted out at s)) in
     let short = join-short m n v.short w.short in
     record { wrote = wrote_then (fits-most (m + n) h short) v.wrote w.wrote; short = short }
+
+pub lined-most : {out : List ℕ} {at : ℕ} {text new : List ℕ} {next : ℕ} (m n : ℕ) → m ≤ n → Lined m out at text new next → Lined n out at text new next
+lined-most m n h w = record { wrote = w.wrote; short = record { bytes = omega (arith, w.short.bytes) } }

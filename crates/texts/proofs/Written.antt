@@ -3,6 +3,7 @@
 --   fits-most     a text of at most that many bytes has room     fits-first, fits_rest   both halves of a text that has room
 --   wrote_none    nothing written                                 wrote_byte              one byte stored
 --   wrote_then    two texts written one behind the other are their join
+--   wrote_only    what was written, and the place behind it, are fixed
 -- Trusts: nothing.
 use Prim.Native.Nat.{ℕ, ◌+◌, ◌≤◌}
 use mathlib.Core.Path.{◌≡◌, refl, sym, ap, subst, ◌∙◌}
@@ -70,3 +71,6 @@ wrote_then {out} {at} {s} {t} {new} {last} {next} h v w =
       bytes = w.bytes ∙ ap (λ (l : List ℕ). pasted l next t) v.bytes ∙ ap (λ (k : ℕ). pasted (pasted out at s) k t) v.place ∙ pasted_then out at s t h.room;
       place = omega (arith, w.place, v.place, length-append s t);
     }
+
+pub wrote_only : {out : List ℕ} {at : ℕ} {text new last : List ℕ} {next end : ℕ} → Wrote out at text new next → Wrote out at text last end → (new ≡ last) × (next ≡ end)
+wrote_only v w = (v.bytes ∙ sym w.bytes, v.place ∙ sym w.place)

@@ -1,14 +1,14 @@
 // Words and numbers as text, at a place of a buffer (document 01, "Listing").
 //
-// Two public functions, `put_field` and `put_address`. They take any word, any number, any buffer and any place. Where the text has no
-// room they write nothing and answer the place that they were given; else they write just the text and answer the place behind it.
-// The private functions ask that their text has room.
+// `put_field` and `put_address` take any word, any number, any buffer and any place. Where the text has no room they write nothing and
+// answer the place that they were given; else they write just the text and answer the place behind it. `put_each` writes a text for
+// each entry of a list by a function that is passed in. It and the private functions ask that their text has room.
 #![tactic(auto)]
 
-ghost use Rattle.std.specs.Prelude.{◌≡◌, [], ◌∷◌, ◌+◌, ◌<◌, length, leb};
-ghost use Rattle.texts.specs.Text.{digit, decimal, hexadecimal, field, address};
+ghost use Rattle.std.specs.Prelude.{◌≡◌, ℕ, List, [], ◌∷◌, ◌+◌, ◌*◌, ◌<◌, ◌≤◌, length, leb};
+ghost use Rattle.texts.specs.Text.{digit, decimal, hexadecimal, field, address, each};
 ghost use Rattle.texts.specs.Put.{put};
-ghost use Rattle.texts.specs.Writing.{Fits, Wrote};
+ghost use Rattle.texts.specs.Writing.{Fits, Wrote, Lined, Puts};
 
 // The digits of an address.
 const ADDRESS_DIGITS: usize = 12;
@@ -98,4 +98,23 @@ pub fn put_address(word: &[u8], n: u64, out: &mut [u8], at: usize) -> usize
     }
     wire::copy_at(out, at, word);
     put_hexadecimal(ADDRESS_DIGITS, n, out, at + word.len())
+}
+
+// Writes a text for each entry of a list, one behind the other: `put` writes that of one, of at most MOST bytes.
+pub fn put_each<const MOST: usize, T: Copy, F: Fn(T, &mut [u8], usize) -> usize>(
+    items: &[T],
+    put: F,
+    out: &mut [u8],
+    at: usize,
+) -> usize
+    ghost line: { T → List ℕ }
+    requires each { Puts MOST line (F.pre put) (F.post put) }
+    requires room { at + MOST * length items.now ≤ length out.old }
+    ensures { Lined (MOST * length items.now) out.old at (each line items.now) out.new result }
+{
+    let mut next = at;
+    for item in items {
+        next = put(*item, out, next);
+    }
+    next
 }

@@ -1,14 +1,7 @@
--- `listing::lines::put_channels` writes a line for each channel. After i turns the lines of the first i stand there (`Turned`); what is left of
--- the count falls.
+-- `listing::lines::put_channels` has `put_each` write the text `channel_line` of each entry.
 -- Trusts: nothing.
-use Rattle.std.proofs.Common.{◌-◌}
-use Rattle.table.specs.Table.{channels_of}
 use Rattle.listing.specs.Text.{channel_line}
-use Rattle.listing.proofs.Turns.{Turned}
 use Rattle.listing.proofs.lines.put_channels.Given as goal
 
-abbrev pub invariant-loop-i : goal.invariant-loop-i
-invariant-loop-i l = Turned 19 channel_line (channels_of l.table) l.initial.out l.at l.i l.out l.next
-
-abbrev pub decreases-loop-i : goal.decreases-loop-i
-decreases-loop-i l = l.n - l.i
+abbrev pub ghost-put_each : goal.ghost-put_each
+ghost-put_each a = channel_line
