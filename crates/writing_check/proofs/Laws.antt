@@ -1,17 +1,16 @@
 -- Laws of the tests of a table (specs/Producible.antt).
 --
 --   answers_all, answers_not    test 15 says Answered, or a place: the search finds nothing, or a number
---   passed-channel              one more place of the channels is passed
 --   producible_not, producible_as   the test of a table, by what its lists come to: false, or what test 15 says
 -- Trusts: nothing.
-use Prim.Native.Nat.{ℕ, ◌+◌, ◌<◌}
+use Prim.Native.Nat.{ℕ}
 use mathlib.Core.Path.{◌≡◌, refl, sym, ap, ◌∙◌}
-use mathlib.Core.Bool.{Bool, true, false, cond, not, ◌&&◌, ◌||◌, and_assoc, and-true}
+use mathlib.Core.Bool.{Bool, true, false, not, ◌&&◌, and_assoc}
 use mathlib.Core.List.{List, map}
 use native.Mathlib.Omega.{arith}
-use borrow.Author.Tests.{ltb-true, ltb-false, le-leb, lt-leb, not-true, not-false}
-use lib.Dec.{ltb, leb}
-use lib.ListN.{length, get_or, take, drop}
+use borrow.Author.Tests.{not-true, not-false}
+use lib.Dec.{leb}
+use lib.ListN.{length, take, drop}
 use Rattle.table.specs.Table.{limited_to, rules_of, classifiers_of, channels_of}
 use Rattle.table.specs.declared.Table.{Table}
 use Rattle.element_tests.specs.Tests.{no_channel}
@@ -26,7 +25,6 @@ use Rattle.named.specs.declared.Lone.TheVariants.{Answered, At}
 use Rattle.named.proofs.Laws.{lone_number-answered}
 use Rattle.named.proofs.Sought.{sought_only}
 use Rattle.writing_entries.specs.Entries.{all_of, list_fits, is_zero, sound_rule, unused_rule, sound_classifier, unused_classifier}
-use Rattle.writing_entries.proofs.Places.{Passed, passed-more}
 use Rattle.writing_lists.specs.Lists.{rules_fit, classifiers_fit}
 use Rattle.writing_check.specs.Producible.{is_nothing, producible}
 
@@ -51,16 +49,6 @@ swap false false c = refl
 order : (a u s b v p d c w q e x y n : Bool)
     → a && (u && s && (b && (v && p && d && (c && (w && q && e && (x && y)))))) && n ≡ a && (u && (s && (b && (v && (p && (c && (w && (q && (x && (y && (e && (d && n))))))))))))
 order a u s b v p d c w q e x y n = simp (and_assoc, swap)
-
--- a place of the channels: it is used or 0, and it is unused or a channel
-pub passed-channel : {n : ℕ} {l : List ℕ} {fit : Bool} {i : ℕ} → Passed (λ hertz. not (no_channel hertz)) is_zero 32 n l fit i → i < 32 → {bad : Bool} → bad ≡ no_channel (get_or l i 0)
-    → Passed (λ hertz. not (no_channel hertz)) is_zero 32 n l (fit && ((ltb i n || is_zero (get_or l i 0)) && (leb n i || not bad))) (i + 1)
-passed-channel {n} {l} {fit} {i} p h {bad} e = passed-more p h 0 (rw e (on (ltb i n) refl))
-  where
-    on : (b : Bool) → ltb i n ≡ b
-        → ((b || is_zero (get_or l i 0)) && (leb n i || not (no_channel (get_or l i 0)))) ≡ cond b (not (no_channel (get_or l i 0))) (is_zero (get_or l i 0))
-    on true y = rw (lt-leb n i (ltb-true i n y))
-    on false y = rw (le-leb n i (ltb-false i n y)) (and-true (is_zero (get_or l i 0)))
 
 module _ (t : Table) (k : length t.channels ≡ 32) (l : length t.classifiers ≡ 32) (j : length t.rules ≡ 32) {channels classifiers rules : Bool}
     (e : channels ≡ list_fits (λ hertz. not (no_channel hertz)) is_zero t.channelcount t.channels)

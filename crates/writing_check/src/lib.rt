@@ -16,16 +16,13 @@ use table::Table;
 fn channels_fit(channels: [u32; 32], count: u8) -> bool
     ensures { result ≡ list_fits (λ hertz. not (no_channel hertz)) is_zero count channels }
 {
-    let n = count as usize;
-    let mut fit = true;
-    let mut i: usize = 0;
-    while i < 32 {
-        let hertz = channels[i];
-        let bad = element_tests::no_channel(hertz);
-        fit = fit & (((i < n) | (hertz == 0)) & ((n <= i) | !bad));
-        i += 1;
-    }
-    fit
+    writing_entries::places_fit(&channels, count as usize, |used, hertz| {
+        if used {
+            !element_tests::no_channel(hertz)
+        } else {
+            hertz == 0
+        }
+    })
 }
 
 // Whether reading can produce the table. Whether a classifier carries each number that a rule names is test 15, with no message to find

@@ -1,44 +1,28 @@
 -- Laws of the tests of an entry, as the code makes them (specs/Entries.antt).
 --
 --   all_of_append      a joined list
---   passed-number     a place of a list of numbers: used it is not 0, else it is
---   passed-zero       a place of a list of UCIDs: it is used, or it is 0
+--   or_cond           a place of a list of UCIDs: it is used, or it is 0
 --   sound_rule_of, unused_rule_of    a rule, by what its three lists come to
 -- Trusts: nothing.
-use Prim.Native.Nat.{ℕ, ◌+◌, ◌^◌, ◌<◌}
+use Prim.Native.Nat.{◌^◌}
 use mathlib.Core.Path.{◌≡◌, refl, sym}
-use mathlib.Core.Bool.{Bool, true, false, cond, not, ◌&&◌, ◌||◌, beq, and_assoc, and-true}
+use mathlib.Core.Bool.{Bool, true, false, cond, not, ◌&&◌, ◌||◌, and_assoc, and-true}
 use mathlib.Core.List.{List, [], ◌∷◌, ◌++◌}
 use lib.Dec.{leb, ltb}
-use lib.ListN.{length, get_or, drop}
+use lib.ListN.{length, drop}
 use Rattle.table.specs.Table.{clients_of, numbers_of}
 use Rattle.table.specs.declared.Rule.{Rule}
 use Rattle.listed.proofs.Laws.{front-all}
 use Rattle.writing_entries.specs.Entries.{all_of, list_fits, is_zero, sound_client, unused_client, sound_rule, unused_rule}
-use Rattle.writing_entries.proofs.Places.{Passed, passed-more}
 
 pub all_of_append : {A : Type 0} (test : A → Bool) (s t : List A) → all_of test (s ++ t) ≡ (all_of test s && all_of test t)
 unfolding all_of
 all_of_append test [] t = refl
 all_of_append test (x ∷ s) t = rw (all_of_append test s t) (sym (and_assoc (test x) (all_of test s) (all_of test t)))
 
-or_cond : (a b : Bool) → (a || b) ≡ cond a true b
+pub or_cond : (a b : Bool) → (a || b) ≡ cond a true b
 or_cond true b = refl
 or_cond false b = refl
-
-apart-cond : (a b : Bool) → not (beq a b) ≡ cond a (not b) b
-apart-cond true true = refl
-apart-cond true false = refl
-apart-cond false true = refl
-apart-cond false false = refl
-
-module _ {limit n : ℕ} {l : List ℕ} {fit : Bool} {i : ℕ} where
-  pub passed-number : Passed (λ m. not (is_zero m)) is_zero limit n l fit i → i < limit
-      → Passed (λ m. not (is_zero m)) is_zero limit n l (fit && not (beq (ltb i n) (is_zero (get_or l i 0)))) (i + 1)
-  passed-number p h = passed-more p h 0 (apart-cond (ltb i n) (is_zero (get_or l i 0)))
-
-  pub passed-zero : Passed (λ m. true) is_zero limit n l fit i → i < limit → Passed (λ m. true) is_zero limit n l (fit && (ltb i n || is_zero (get_or l i 0))) (i + 1)
-  passed-zero p h = passed-more p h 0 (or_cond (ltb i n) (is_zero (get_or l i 0)))
 
 module _ (q : Rule) {ucids clients numbers : Bool} where
   pub sound_rule_of : length q.clients ≡ 8 → length q.numbers ≡ 8 → ucids ≡ all_of is_zero (drop q.ucidcount q.ucids)

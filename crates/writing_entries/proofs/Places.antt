@@ -2,7 +2,7 @@
 --
 --   Passed used unused limit n l fit i   i places of the array l are passed, and `fit` says whether each of them is as it must be
 --   passed_none, passed-more, passed-end   before the first place; one more is passed; behind the last
---   passed-any                             behind the last, where a used place may hold anything
+--   fits-any                               where a used place may hold anything
 -- Trusts: nothing.
 use Prim.Native.Nat.{ℕ, suc, ◌+◌, ◌-◌, ◌≤◌, ◌<◌}
 use mathlib.Core.Path.{◌≡◌, refl, sym, ap, ◌∙◌}
@@ -87,5 +87,5 @@ any [] = refl
 any (x ∷ l) = any l
 
 -- a used place may hold anything
-pub passed-any : {A : Type 0} {unused : A → Bool} {limit n : ℕ} {l : List A} {fit : Bool} {i : ℕ} → Passed (λ x. true) unused limit n l fit i → limit ≤ i → fit ≡ all_of unused (drop n l)
-passed-any {unused = unused} {n = n} {l = l} p h = passed-end p h ∙ ap (λ (b : Bool). all_of unused (drop n l) && b) (any (take n l)) ∙ and-true (all_of unused (drop n l))
+pub fits-any : {A : Type 0} (unused : A → Bool) (n : ℕ) (l : List A) → list_fits (λ x. true) unused n l ≡ all_of unused (drop n l)
+fits-any unused n l = ap (λ (b : Bool). all_of unused (drop n l) && b) (any (take n l)) ∙ and-true (all_of unused (drop n l))

@@ -5,7 +5,7 @@
 // the tests of an entry cost no branch each.
 #![tactic(auto)]
 
-ghost use Rattle.std.specs.Prelude.{◌≡◌, cond, not, length, drop};
+ghost use Rattle.std.specs.Prelude.{◌≡◌, Bool, cond, not, drop};
 ghost use Rattle.writing_entries.specs.Entries.{all_of, list_fits, is_zero, sound_client, unused_client, sound_rule, unused_rule, sound_part, sound_classifier, unused_classifier};
 
 use table::{Classifier, Client, Rule};
@@ -16,66 +16,55 @@ const SIX_BYTES: u64 = 281474976710656;
 const TWO_BYTES: u64 = 65536;
 
 // Whether a place of a client list is as it must be: a used one could have been read, another is empty.
+#[tactic(auto, unfolding(crate::specs::Entries::sound_client, crate::specs::Entries::unused_client))]
 fn client_fits(used: bool, client: Client) -> bool
     ensures { result ≡ cond used (sound_client client) (unused_client client) }
 {
-    let kind = client.kind;
     let value = client.value;
-    if used {
-        if kind == 0 {
-            return value == 0;
-        }
-        if kind == 1 {
-            return (value != 0) & (value < TWO_BYTES);
-        }
-        if kind == 2 {
-            return value < SIX_BYTES;
-        }
-        return (kind < 5) & (value < TWO_BYTES);
+    if !used {
+        return (client.kind == 0) & (value == 0);
     }
-    (kind == 0) & (value == 0)
+    match client.kind {
+        table::BROADCAST_ALL => value == 0,
+        table::BROADCAST => (value != 0) & (value < TWO_BYTES),
+        table::WELL_KNOWN_MAC => value < SIX_BYTES,
+        table::CA_SYSTEM | table::APPLICATION => value < TWO_BYTES,
+        _ => false,
+    }
+}
+
+// Whether every place of a list is as it must be, by a test that is told whether the place is one of the first `used`. Every place is
+// tested, whatever the others say.
+pub fn places_fit<T: Copy, F: Fn(bool, T) -> bool>(places: &[T], used: usize, fits: F) -> bool
+    requires { F.IsAlwaysCallable fits }
+    ensures { (sound : T → Bool) (unused : T → Bool) → ((is_used : Bool) (x : T) (r : Bool) → F.post fits is_used x r → r ≡ cond is_used (sound x) (unused x)) → result ≡ list_fits sound unused used places.now }
+{
+    let mut fit = true;
+    for (j, place) in places.iter().enumerate() {
+        fit &= fits(j < used, *place);
+    }
+    fit
 }
 
 // Whether the first `n` places of a rule's client list are as they must be where used, and the others unused.
-fn clients_fit(rule: Rule, n: usize) -> bool
-    ensures { result ≡ list_fits sound_client unused_client n rule.clients }
+fn clients_fit(clients: &[Client; 8], n: usize) -> bool
+    ensures { result ≡ list_fits sound_client unused_client n clients.now }
 {
-    let mut fit = true;
-    let mut j: usize = 0;
-    while j < 8 {
-        let client = rule.clients[j];
-        fit = fit & client_fits(j < n, client);
-        j += 1;
-    }
-    fit
+    places_fit(clients, n, client_fits)
 }
 
 // Whether the places of a UCID list behind its first `n` are 0.
 fn ucids_fit(ucids: &[u8; 16], n: usize) -> bool
-    requires { length ucids.now ≡ 16 }
     ensures { result ≡ all_of is_zero (drop n ucids.now) }
 {
-    let mut fit = true;
-    let mut j: usize = 0;
-    while j < 16 {
-        fit = fit & ((j < n) | (ucids[j] == 0));
-        j += 1;
-    }
-    fit
+    places_fit(ucids, n, |used, ucid| used | (ucid == 0))
 }
 
 // Whether the first `n` places of a list of classifier numbers are not 0, and the others are.
 fn numbers_fit(numbers: &[u16; 8], n: usize) -> bool
-    requires { length numbers.now ≡ 8 }
     ensures { result ≡ list_fits (λ m. not (is_zero m)) is_zero n numbers.now }
 {
-    let mut fit = true;
-    let mut j: usize = 0;
-    while j < 8 {
-        fit = fit & ((j < n) != (numbers[j] == 0));
-        j += 1;
-    }
-    fit
+    places_fit(numbers, n, |used, number| used != (number == 0))
 }
 
 // Whether a used rule could have been read.
@@ -83,7 +72,7 @@ pub fn is_sound_rule(rule: Rule) -> bool
     ensures { result ≡ sound_rule rule }
 {
     let ucids = ucids_fit(&rule.ucids, rule.ucidcount as usize);
-    let clients = clients_fit(rule, rule.clientcount as usize);
+    let clients = clients_fit(&rule.clients, rule.clientcount as usize);
     let numbers = numbers_fit(&rule.numbers, rule.numbercount as usize);
     (rule.ucidcount <= 16)
         & (ucids
@@ -97,7 +86,7 @@ pub fn is_unused_rule(rule: Rule) -> bool
 {
     let ucids = ucids_fit(&rule.ucids, 0);
     let numbers = numbers_fit(&rule.numbers, 0);
-    let clients = clients_fit(rule, 0);
+    let clients = clients_fit(&rule.clients, 0);
     (rule.number == 0)
         & ((rule.priority == 0)
             & ((rule.ucidcount == 0)

@@ -1,11 +1,10 @@
--- `writing_entries::ucids_fit` goes over all places of the list, and keeps Passed: a used one may hold anything.
+-- `writing_entries::ucids_fit` goes over all places of the list: a used one may hold anything.
 -- Trusts: nothing.
-use borrow.Author.Rules.{rules}
-use Rattle.writing_entries.proofs.Places.{passed_none, passed-any}
+use Rattle.std.proofs.Common.{true, rules, ◌∙◌}
+use Rattle.writing_entries.specs.Entries.{is_zero}
+use Rattle.writing_entries.proofs.Laws.{or_cond}
+use Rattle.writing_entries.proofs.Places.{fits-any}
 use Rattle.writing_entries.proofs.ucids_fit.Goals as goal
 
-pub loop-j-init : goal.loop-j-init
-loop-j-init c = passed_none c.requires
-
 pub returns : goal.returns
-returns c = passed-any c.loop-j.invariant (search rules)
+returns c = c.places_fit.ensures (λ x. true) is_zero (λ used x r p. search (rules, or_cond)) ∙ fits-any is_zero c.args.n c.args.ucids.now
