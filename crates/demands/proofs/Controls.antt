@@ -34,8 +34,7 @@ use Rattle.tunnel.proofs.Headers.{plain_verdict}
 use Rattle.tunnel.proofs.Controls as tunnel
 use Rattle.modem_record.specs.declared.Modem.{Modem}
 use Rattle.modem_rows.specs.declared.Event.{Event}
-use Rattle.modem_step.specs.declared.Stepped.{Stepped}
-use Rattle.modem_step.specs.Step.{stepped_modem}
+use Rattle.modem_step.specs.Step.{Stepped, stepped_modem}
 use Rattle.modem.proofs.Controls as modem
 use Rattle.collector.specs.Answers.{waiting}
 use Rattle.held.specs.Held.{well_made}

@@ -30,9 +30,8 @@ use Rattle.tunnel.specs.Judge.{match_place, rule_verdict, choice_verdict, verdic
 use Rattle.tunnel_parts.specs.Prepared.{entries_of, prepared_verdict}
 use Rattle.modem_record.specs.declared.Modem.{Modem}
 use Rattle.modem_rows.specs.declared.Event.{Event}
-use Rattle.modem_step.specs.declared.Answer.{Answer}
-use Rattle.modem_step.specs.declared.Answer.TheVariants as modem
-use Rattle.modem_step.specs.Step.{answer_number, stepped_modem, next_modem}
+use Rattle.modem_step.specs.Step.{Answer, answer_number, stepped_modem, next_modem}
+use Rattle.modem_step.specs.Step as modem
 use Rattle.modem_rows.specs.Numbers.{event_of}
 use Rattle.modem_step.specs.Numbers.{numbered_step}
 use Rattle.modem.proofs.LawsSending as sending

@@ -1,11 +1,13 @@
 -- Demand2Frames: choosing the tunnel, judging a frame and stepping the modem give exactly their definitions: NAME-met and NAME-gives, as
 -- Demand2 says them of bodies and tables.
 -- Trusts: nothing.
-use mathlib.Core.Path.{◌≡◌, refl}
+use mathlib.Core.Path.{◌≡◌, refl, sym, ◌∙◌}
 use contract.Lifetimes.{Lfts}
 use lib.ListN.{length}
 use denote.Triple.Entry.{Args, Res}
 use denote.Triple.Clauses.{AtExit}
+use Rattle.std.specs.Prelude.{Result}
+use Rattle.refusals.specs.declared.Refusal.{Refusal}
 use Rattle.demands.proofs.Contract.{Gives, Says, answer}
 use Rattle.order.specs.Best.{is_better}
 use Rattle.choice.specs.Choose.{choice_of, rule_at}
@@ -29,13 +31,12 @@ use Rattle.payloads.proofs.payload.Reads as payload_contract
 use Rattle.preparing.proofs.prepare_tunnel.Reads as prepare_tunnel_contract
 use Rattle.prepared.proofs.judge_prepared.Reads as judge_prepared_contract
 use Rattle.tunnel_parts.proofs.judge_lent.Reads as judge_lent_contract
-use Rattle.modem_step.specs.declared.Stepped.{Stepped}
 use Rattle.modem_record.specs.Record as kept
 use Rattle.modem_asked.specs.Asked as asked
 use Rattle.modem_record.specs.Record.{empty_modem}
 use Rattle.modem_step.specs.Step.{stepped_modem}
-use Rattle.modem_step.specs.Numbers.{as_numbers, numbered_step}
-use Rattle.modem_step.proofs.Told.{as_numbers_only}
+use Rattle.modem_step.specs.Numbers.{as_numbers, answered, numbered_step}
+use Rattle.modem_step.proofs.Told.{as_answer, as_result, answered_is, told_only, told_step}
 use Rattle.modem.proofs.step_modem.Reads as step_modem_contract
 use Rattle.modem.proofs.step_modem.Statement as step_modem'
 use Rattle.modem.proofs.step_modem.Met as step_modem''
@@ -44,6 +45,11 @@ use Rattle.modem_asked.proofs.transmits.Reads as transmits_contract
 use Rattle.modem_asked.proofs.forwards.Reads as forwards_contract
 use Rattle.modem_record.proofs.empty_modem.Reads as empty_modem_contract
 use Rattle.modem_record.proofs.counts_idle.Reads as counts_idle_contract
+use Rattle.modem_record.specs.States as states
+use Rattle.modem_record.specs.declared.Modem.{Modem}
+use Rattle.modem_record.proofs.Modem.is_sending.Reads as is_sending_contract
+use Rattle.modem_record.proofs.Modem.is_forwarding.Reads as is_forwarding_contract
+use Rattle.modem_record.proofs.Modem.is_four.Reads as is_four_contract
 use Rattle.modem_rows.specs.Numbers.{event_of}
 use Rattle.modem_rows.specs.Events.{event_on}
 use Rattle.modem_rows.proofs.act.Reads as act_contract
@@ -95,12 +101,13 @@ judge_lent_gives κs a x s h = judged_only _ _ h
 pub step_modem_met : {M : Type 1} → step_modem'.statement M
 step_modem_met = step_modem''.met
 
-pub step_modem_gives : (κs : Lfts 0) → Gives answer (step_modem_contract.Post κs) (λ a. stepped_modem a.0 a.1.0 a.1.1.0)
-step_modem_gives κs a x s h = as_numbers_only _ _ h
+pub step_modem_gives : (κs : Lfts 0) → Gives answer (step_modem_contract.Post κs) (λ a. as_result (stepped_modem a.0 a.1.0 a.1.1.0))
+step_modem_gives κs a x s h = told_only a.0 _ _ (h ∙ sym (told_step a.0 a.1.0 a.1.1.0))
 
 pub step_numbered_gives : (κs : Lfts 0) → Gives answer (step_numbered_contract.Post κs)
-    (λ a. numbered_step a.0 a.1.0 a.1.1.0 a.1.1.1.0 a.1.1.1.1.0 a.1.1.1.1.1.0 a.1.1.1.1.1.1.0)
-step_numbered_gives κs a x s h = h
+    (λ a. let n = a.1.1.0 in as_result (stepped_modem a.0 a.1.0 (event_of n.kind n.a n.b n.c n.d)))
+unfolding numbered_step
+step_numbered_gives κs a x s h = let n = a.1.1.0 in told_only a.0 _ _ (h ∙ sym (told_step a.0 a.1.0 (event_of n.kind n.a n.b n.c n.d)))
 
 pub transmits_gives : (κs : Lfts 0) → Gives answer (transmits_contract.Post κs) (λ a. asked.transmits a.0)
 transmits_gives κs a x s h = h
@@ -114,13 +121,22 @@ empty_modem_gives κs a x s h = h
 pub counts_idle_gives : (κs : Lfts 0) → Gives answer (counts_idle_contract.Post κs) (λ a. kept.counts_idle a.0)
 counts_idle_gives κs a x s h = h
 
+pub is_sending_gives : (κs : Lfts 0) → Gives answer (is_sending_contract.Post κs) (λ a. states.is_sending a.0)
+is_sending_gives κs a x s h = h
+
+pub is_forwarding_gives : (κs : Lfts 0) → Gives answer (is_forwarding_contract.Post κs) (λ a. states.is_forwarding a.0)
+is_forwarding_gives κs a x s h = h
+
+pub is_four_gives : (κs : Lfts 0) → Gives answer (is_four_contract.Post κs) (λ a. states.is_four a.0)
+is_four_gives κs a x s h = h
+
 pub act_gives : (κs : Lfts 0) → Gives answer (act_contract.Post κs)
-    (λ a. event_on (event_of a.1.0 a.1.1.0 a.1.1.1.0 a.1.1.1.1.0 a.1.1.1.1.1.0) a.0)
+    (λ a. let n = a.1.0 in event_on (event_of n.kind n.a n.b n.c n.d) a.0)
 act_gives κs a x s h = h
 
 -- the same on a record that is lent
 abbrev pub OnEvent : (κs : Lfts 1) → Args on_event.signature κs → Res on_event.signature κs → AtExit on_event.ended κs → Type 0
-OnEvent κs a x s = as_numbers (record { answer = x; modem = s.0.now }) ≡ as_numbers (stepped_modem a.0.now a.1.0 a.1.1.0)
+OnEvent κs a x s = record { answer = answered x; modem = s.0.now } ≡ as_numbers (stepped_modem a.0.now a.1.0 a.1.1.0)
 
 pub on_event_met : {M : Type 1} → on_event'.statement M
 on_event_met = on_event''.met
@@ -128,6 +144,6 @@ on_event_met = on_event''.met
 pub on_event_says : Says on_event.ended (λ M 𝓤 𝓛. on_event.clauses 𝓛) OnEvent
 on_event_says M 𝓤 𝓛 mem run κs a g x s = refl
 
-pub on_event_gives : (κs : Lfts 1) → Gives {L = Stepped} (λ x s. record { answer = x; modem = s.0.now }) (OnEvent κs)
-    (λ a. stepped_modem a.0.now a.1.0 a.1.1.0)
-on_event_gives κs a x s h = as_numbers_only _ _ h
+pub on_event_gives : (κs : Lfts 1) → Gives {L = Result Unit Refusal × Modem} (λ x s. (x, s.0.now)) (OnEvent κs)
+    (λ a. let s = stepped_modem a.0.now a.1.0 a.1.1.0 in (as_answer s.answer, s.modem))
+on_event_gives κs a x s h = let p = answered_is x s.0.now (stepped_modem a.0.now a.1.0 a.1.1.0) h in rw (p.0, p.1)

@@ -9,12 +9,13 @@
 -- dcdlist, whose contract can say nothing of what is read or written (docs/CONTRACTS.md).
 -- Trusts: nothing.
 use contract.Lifetimes.{Lfts}
+use Rattle.std.specs.Prelude.{Result}
+use Rattle.refusals.specs.declared.Refusal.{Refusal}
 use Rattle.demands.proofs.Contract.{One, only, answer}
 use Rattle.demands.proofs.Demand2 as demand2
 use Rattle.demands.proofs.Demand2Frames as frames
 use Rattle.collector.specs.Answers.{said}
 use Rattle.collector.specs.Step.{After}
-use Rattle.modem_step.specs.declared.Stepped.{Stepped}
 use Rattle.reader.proofs.read_table.Reads as read_table_contract
 use Rattle.collection.proofs.empty_collection.Reads as empty_collection_contract
 use Rattle.collector.proofs.collect.Reads as collect_contract
@@ -35,6 +36,10 @@ use Rattle.prepared.proofs.judge_prepared.Reads as judge_prepared_contract
 use Rattle.tunnel_parts.proofs.judge_lent.Reads as judge_lent_contract
 use Rattle.modem_record.proofs.empty_modem.Reads as empty_modem_contract
 use Rattle.modem_record.proofs.counts_idle.Reads as counts_idle_contract
+use Rattle.modem_record.specs.declared.Modem.{Modem}
+use Rattle.modem_record.proofs.Modem.is_sending.Reads as is_sending_contract
+use Rattle.modem_record.proofs.Modem.is_forwarding.Reads as is_forwarding_contract
+use Rattle.modem_record.proofs.Modem.is_four.Reads as is_four_contract
 use Rattle.modem_rows.proofs.act.Reads as act_contract
 use Rattle.modem.proofs.step_modem.Reads as step_modem_contract
 use Rattle.modem_step.proofs.step_numbered.Reads as step_numbered_contract
@@ -114,6 +119,15 @@ empty_modem_one κs = only (frames.empty_modem_gives κs)
 pub counts_idle_one : (κs : Lfts 0) → One answer (counts_idle_contract.Post κs)
 counts_idle_one κs = only (frames.counts_idle_gives κs)
 
+pub is_sending_one : (κs : Lfts 0) → One answer (is_sending_contract.Post κs)
+is_sending_one κs = only (frames.is_sending_gives κs)
+
+pub is_forwarding_one : (κs : Lfts 0) → One answer (is_forwarding_contract.Post κs)
+is_forwarding_one κs = only (frames.is_forwarding_gives κs)
+
+pub is_four_one : (κs : Lfts 0) → One answer (is_four_contract.Post κs)
+is_four_one κs = only (frames.is_four_gives κs)
+
 pub act_one : (κs : Lfts 0) → One answer (act_contract.Post κs)
 act_one κs = only (frames.act_gives κs)
 
@@ -129,5 +143,5 @@ transmits_one κs = only (frames.transmits_gives κs)
 pub forwards_one : (κs : Lfts 0) → One answer (forwards_contract.Post κs)
 forwards_one κs = only (frames.forwards_gives κs)
 
-pub on_event_one : (κs : Lfts 1) → One {L = Stepped} (λ x s. record { answer = x; modem = s.0.now }) (frames.OnEvent κs)
+pub on_event_one : (κs : Lfts 1) → One {L = Result Unit Refusal × Modem} (λ x s. (x, s.0.now)) (frames.OnEvent κs)
 on_event_one κs = only (frames.on_event_gives κs)

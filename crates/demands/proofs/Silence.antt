@@ -14,14 +14,12 @@ use mathlib.Core.List.{List, [], ◌∷◌}
 use mathlib.Core.Logic.{◌⊎◌, inl, inr}
 use native.Mathlib.Omega.{arith}
 use Rattle.modem_record.specs.declared.Modem.{Modem}
-use Rattle.modem_step.specs.declared.Stepped.{Stepped}
-use Rattle.modem_step.specs.declared.Answer.TheVariants.{Done}
 use Rattle.modem_rows.specs.declared.Event.{Event}
 use Rattle.modem_rows.specs.declared.Event.TheVariants.{Start, Locked, ScanEmpty, TableAccepted, Packet, Tick, Enable, UpstreamUp, UpstreamLost, Disable, Hunt, DownstreamLost, Unnamed}
 use Rattle.modem_record.specs.Record.{counts_idle}
 use Rattle.modem_asked.specs.Asked.{transmits}
 use Rattle.modem_rows.specs.Events.{disable_row, disable_event, event_on}
-use Rattle.modem_step.specs.Step.{is_back, is_start, aged, answer_number, stepped_modem, next_modem}
+use Rattle.modem_step.specs.Step.{Done, Stepped, is_back, is_start, aged, answer_number, stepped_modem, next_modem}
 use Rattle.modem_step.proofs.Laws.{stepped_modem_ignored, stepped_modem_back, stepped_modem-taken}
 use Rattle.modem.proofs.LawsFrame.{cond-field, cond_same, sets_permission, next_modem_permission}
 use Rattle.modem.proofs.LawsSending.{transmits-idle, transmits→permitted}
@@ -34,7 +32,7 @@ abbrev pub allows : Event → Bool
 allows (Start p) = true
 allows Locked = false
 allows ScanEmpty = false
-allows (TableAccepted a b c d) = false
+allows (TableAccepted t) = false
 allows Packet = false
 allows Tick = false
 allows Enable = true
@@ -108,7 +106,7 @@ module _ (m : Modem) (now : ℕ) where
   stays (Start p) a mute = absurd (true≢false a)
   stays Locked a mute = kept Locked refl refl mute
   stays ScanEmpty a mute = kept ScanEmpty refl refl mute
-  stays (TableAccepted t u v w) a mute = kept (TableAccepted t u v w) refl refl mute
+  stays (TableAccepted t) a mute = kept (TableAccepted t) refl refl mute
   stays Packet a mute = kept Packet refl refl mute
   stays Tick a mute = kept Tick refl refl mute
   stays Enable a mute = absurd (true≢false a)

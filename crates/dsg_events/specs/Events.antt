@@ -5,8 +5,7 @@
 -- Which event a number names, and what becomes of any other, is `event_of` of crate modem_rows. Trusts: nothing.
 use Rattle.std.specs.Prelude.{ℕ}
 use Rattle.modem_record.specs.declared.Modem.{Modem}
-use Rattle.modem_step.specs.declared.Numbered.{Numbered}
-use Rattle.modem_step.specs.Numbers.{numbered_step}
+use Rattle.modem_step.specs.Numbers.{Numbered, numbered_step}
 use Rattle.dsg_events.specs.declared.EventStepped.{EventStepped}
 
 abbrev pub stepped_as : Numbered → EventStepped

@@ -7,8 +7,10 @@ ghost use Rattle.std.specs.Prelude.{◌≡◌};
 ghost use Rattle.dsg_events.specs.Events.{event_stepped};
 
 use modem_record::Modem;
+use modem_rows::Numbers;
 
 // The number that an event is answered, 0 or the refusal, and the record after it.
+// Kept: what `dsg_event` tells a C host; the promise of that function equates these two with `event_stepped`.
 #[derive(Clone, Copy)]
 pub struct EventStepped {
     pub number: u32,
@@ -27,10 +29,21 @@ pub fn event_value(
 ) -> EventStepped
     ensures { result ≡ event_stepped modem clock event a b c d }
 {
-    let stepped = modem_step::step_numbered(modem, clock, event, a, b, c, d);
-    let next = stepped.modem;
-    EventStepped {
-        number: stepped.answer as u32,
-        modem: next,
+    let numbers = Numbers {
+        kind: event,
+        a,
+        b,
+        c,
+        d,
+    };
+    match modem_step::step_numbered(modem, clock, numbers) {
+        Ok(next) => EventStepped {
+            number: 0,
+            modem: next,
+        },
+        Err(refusal) => EventStepped {
+            number: u32::from(refusal.number()),
+            modem,
+        },
     }
 }

@@ -12,11 +12,9 @@ use native.Mathlib.Omega.{arith}
 use Rattle.modem_record.specs.declared.Modem.{Modem}
 use Rattle.modem_rows.specs.declared.Event.{Event}
 use Rattle.modem_rows.specs.declared.Event.TheVariants.{Start, Tick, Disable}
-use Rattle.modem_step.specs.declared.Answer.TheVariants.{Done}
-use Rattle.modem_step.specs.declared.Stepped.{Stepped}
 use Rattle.modem_record.specs.Record.{empty_modem, is_broken, counts_idle}
 use Rattle.modem_rows.specs.Events.{start_row, disable_row, disable_event, event_on}
-use Rattle.modem_step.specs.Step.{is_back, fallen, is_start, answer_number, stepped_modem}
+use Rattle.modem_step.specs.Step.{Done, Stepped, is_back, fallen, is_start, answer_number, stepped_modem}
 
 pub step_only : (f g : Modem → ℕ → Event → Stepped) → ((m : Modem) (now : ℕ) (ev : Event) → f m now ev ≡ stepped_modem m now ev)
     → ((m : Modem) (now : ℕ) (ev : Event) → g m now ev ≡ stepped_modem m now ev)

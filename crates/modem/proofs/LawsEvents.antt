@@ -11,13 +11,12 @@ use mathlib.Core.Logic.{◌⊎◌, inl, inr}
 use native.Mathlib.Omega.{arith}
 use lib.Dec.{eqb}
 use Rattle.modem_record.specs.declared.Modem.{Modem}
-use Rattle.modem_step.specs.declared.Stepped.{Stepped}
 use Rattle.modem_rows.specs.declared.Event.{Event}
 use Rattle.modem_rows.specs.declared.Event.TheVariants.{Start, Locked, ScanEmpty, TableAccepted, Packet, Tick, Enable, UpstreamUp, UpstreamLost, Disable, Hunt, DownstreamLost, Unnamed}
 use Rattle.modem_record.specs.States.{is_at, is_sending, is_permitted, off, receive_of, ucid_of}
 use Rattle.modem_record.specs.Record.{is_broken, well_kept, counts_idle, allowed, defaulted, valued}
 use Rattle.modem_rows.specs.Events.{start_row, heard_row, enable_row, disable_row, table_event, tick_event, enable_event, stopped, disable_event, event_on}
-use Rattle.modem_step.specs.Step.{is_back, is_start, aged, next_modem}
+use Rattle.modem_step.specs.Step.{Stepped, is_back, is_start, aged, next_modem}
 use Rattle.modem_step.proofs.Laws.{stepped_modem-start, stepped_modem_ignored, stepped_modem_back, stepped_modem-taken}
 use Rattle.modem.proofs.LawsKept.{Kept, counts_idle→Kept, Kept→well_kept, moved_kept, aged_kept}
 use Rattle.modem.proofs.LawsRows.{Fits, either, row_at, locked_row_kept, empty_row_kept, table_row_kept, heard_row_kept, retry_row_kept, up_row_kept}
@@ -27,7 +26,7 @@ abbrev pub FitsEvent : Event → Type 0
 FitsEvent (Start p) = Unit {0}
 FitsEvent Locked = Unit {0}
 FitsEvent ScanEmpty = Unit {0}
-FitsEvent (TableAccepted a b c d) = b ≤ 65535
+FitsEvent (TableAccepted t) = t.tdsg2 ≤ 65535
 FitsEvent Packet = Unit {0}
 FitsEvent Tick = Unit {0}
 FitsEvent Enable = Unit {0}
@@ -133,8 +132,9 @@ unfolding event_on is_start table_event tick_event
 event_on_kept (Start p) h g m k f = absurd (false≢true (sym h))
 event_on_kept Locked h g m k f = locked_row_kept m k f m k
 event_on_kept ScanEmpty h g m k f = empty_row_kept m k f m k
-event_on_kept (TableAccepted a b c d) h g m k f =
-    let n = valued m a b c d in let kn = valued_kept m a b c d k in let two = defaulted_le b 600 g (omega arith) in
+event_on_kept (TableAccepted t) h g m k f =
+    let n = valued m t.tdsg1 t.tdsg2 t.tdsg3 t.tdsg4 in
+    let kn = valued_kept m t.tdsg1 t.tdsg2 t.tdsg3 t.tdsg4 k in let two = defaulted_le t.tdsg2 600 g (omega arith) in
     table_row_kept n kn two (heard_row n m) (heard_row_kept n kn two m k)
 event_on_kept Packet h g m k f = heard_row_kept m k f.two m k
 event_on_kept Tick h g m k f = rest_row_kept m k f _ (wake_row_kept m k f _ (retry_row_kept m k f m k))
@@ -167,7 +167,7 @@ unfolding is_start
 stepped_modem_kept m now (Start p) f g = inl (subst (λ (s : Stepped). well_kept s.modem ≡ true) (sym (stepped_modem-start m now p)) (start_row_kept p now))
 stepped_modem_kept m now Locked f g = other_kept m now Locked refl f g
 stepped_modem_kept m now ScanEmpty f g = other_kept m now ScanEmpty refl f g
-stepped_modem_kept m now (TableAccepted a b c d) f g = other_kept m now (TableAccepted a b c d) refl f g
+stepped_modem_kept m now (TableAccepted t) f g = other_kept m now (TableAccepted t) refl f g
 stepped_modem_kept m now Packet f g = other_kept m now Packet refl f g
 stepped_modem_kept m now Tick f g = other_kept m now Tick refl f g
 stepped_modem_kept m now Enable f g = other_kept m now Enable refl f g

@@ -8,12 +8,11 @@ use mathlib.Core.Path.{◌≡◌, refl, ◌∙◌, ap}
 use mathlib.Core.List.{List, [], ◌∷◌}
 use mathlib.Core.Bool.{Bool, true, false, cond, true≢false}
 use Rattle.modem_record.specs.declared.Modem.{Modem}
-use Rattle.modem_step.specs.declared.Stepped.{Stepped}
 use Rattle.modem_rows.specs.declared.Event.{Event}
 use Rattle.modem_rows.specs.declared.Event.TheVariants.{Start, Locked, ScanEmpty, TableAccepted, Packet, Tick, Enable, UpstreamUp, UpstreamLost, Disable, Hunt, DownstreamLost, Unnamed}
 use Rattle.modem_record.specs.Record.{counts_idle}
 use Rattle.modem_rows.specs.Events.{locked_row, empty_row, table_row, heard_row, retry_row, enable_row, up_row, lost_row, disable_row, rest_row, hunt_row, wake_row, table_event, tick_event, enable_event, disable_event, event_on}
-use Rattle.modem_step.specs.Step.{is_back, is_start, aged, next_modem}
+use Rattle.modem_step.specs.Step.{Stepped, is_back, is_start, aged, next_modem}
 use Rattle.modem_step.proofs.Laws.{stepped_modem_ignored, stepped_modem_back, stepped_modem-taken}
 
 module _ {A : Type 0} where
@@ -40,7 +39,7 @@ abbrev pub sets_permission : Event → Bool
 sets_permission (Start p) = false
 sets_permission Locked = false
 sets_permission ScanEmpty = false
-sets_permission (TableAccepted a b c d) = false
+sets_permission (TableAccepted t) = false
 sets_permission Packet = false
 sets_permission Tick = false
 sets_permission Enable = true
@@ -59,7 +58,7 @@ unfolding is_start event_on locked_row empty_row table_event table_row heard_row
 event_on_permission (Start p) m s h = absurd (true≢false s)
 event_on_permission Locked m s h = simp (cond-field permission_of, cond_same)
 event_on_permission ScanEmpty m s h = simp (cond-field permission_of, cond_same)
-event_on_permission (TableAccepted a b c d) m s h = simp (cond-field permission_of, cond_same)
+event_on_permission (TableAccepted t) m s h = simp (cond-field permission_of, cond_same)
 event_on_permission Packet m s h = simp (cond-field permission_of, cond_same)
 event_on_permission Tick m s h = simp (cond-field permission_of, cond_same)
 event_on_permission Enable m s h = absurd (true≢false h)
@@ -78,7 +77,7 @@ abbrev pub sets_values : Event → Bool
 sets_values (Start p) = false
 sets_values Locked = false
 sets_values ScanEmpty = false
-sets_values (TableAccepted a b c d) = true
+sets_values (TableAccepted t) = true
 sets_values Packet = false
 sets_values Tick = false
 sets_values Enable = false
@@ -97,7 +96,7 @@ unfolding is_start event_on locked_row empty_row heard_row tick_event rest_row w
 event_on-values (Start p) m s h = absurd (true≢false s)
 event_on-values Locked m s h = simp (cond-field values_of, cond_same)
 event_on-values ScanEmpty m s h = simp (cond-field values_of, cond_same)
-event_on-values (TableAccepted a b c d) m s h = absurd (true≢false h)
+event_on-values (TableAccepted t) m s h = absurd (true≢false h)
 event_on-values Packet m s h = simp (cond-field values_of, cond_same)
 event_on-values Tick m s h = simp (cond-field values_of, cond_same)
 event_on-values Enable m s h = simp (cond-field values_of, cond_same)

@@ -13,16 +13,13 @@ use mathlib.Core.Bool.{Bool, true, false, cond, not, ◌&&◌}
 use native.Mathlib.Omega.{arith}
 use borrow.Author.Tests.{not-true}
 use Rattle.modem_record.specs.declared.Modem.{Modem}
-use Rattle.modem_step.specs.declared.Stepped.{Stepped}
-use Rattle.modem_step.specs.declared.Answer.{Answer}
-use Rattle.modem_step.specs.declared.Answer.TheVariants.{Done, ClockBack}
 use Rattle.modem_rows.specs.declared.Event.{Event}
 use Rattle.modem_rows.specs.declared.Event.TheVariants.{Disable}
 use Rattle.modem_record.specs.States.{is_sending}
 use Rattle.modem_record.specs.Record.{counts_idle}
 use Rattle.modem_asked.specs.Asked.{transmits, forwards}
 use Rattle.modem_rows.specs.Events.{disable_row, disable_event, event_on}
-use Rattle.modem_step.specs.Step.{is_back, is_start, aged, answer_number, stepped_modem, next_modem}
+use Rattle.modem_step.specs.Step.{Answer, Done, ClockBack, Stepped, is_back, is_start, aged, answer_number, stepped_modem, next_modem}
 use Rattle.modem_step.proofs.Laws.{and_left, and_right, stepped_modem_ignored, stepped_modem_back, stepped_modem-taken}
 use Rattle.modem.proofs.LawsKept.{counts_idle→Kept}
 use Rattle.modem.proofs.LawsFrame.{cond-field, cond_same, sets_permission, next_modem_permission}

@@ -6,20 +6,20 @@
 ghost use Rattle.std.specs.Prelude.{◌≡◌};
 ghost use Rattle.modem_asked.specs.Asked.{transmits, forwards};
 
-use modem_record::{Modem, ONE_WAY, RANGING, TWO_WAY, counts_idle};
+use modem_record::{Modem, counts_idle};
 
 // Whether the transmitter is on.
+#[tactic(auto, unfolding(crate::specs::Asked::transmits))]
 pub fn transmits(modem: Modem) -> bool
     ensures { result ≡ transmits modem }
 {
-    let s = modem.state;
-    !counts_idle(modem) & ((s == RANGING) | (s == TWO_WAY))
+    !counts_idle(modem) & modem.is_sending()
 }
 
 // Whether tunnels are forwarded.
+#[tactic(auto, unfolding(crate::specs::Asked::forwards))]
 pub fn forwards(modem: Modem) -> bool
     ensures { result ≡ forwards modem }
 {
-    let s = modem.state;
-    !counts_idle(modem) & ((s == ONE_WAY) | (s == RANGING) | (s == TWO_WAY))
+    !counts_idle(modem) & modem.is_forwarding()
 }

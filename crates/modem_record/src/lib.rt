@@ -1,10 +1,12 @@
 // The modem record (document 01, "Modem record"): its states, its marks, and which records keep the rules.
 //
 // `empty_modem` is an idle record to begin with. `counts_idle` is the test that every event but Start meets first: a record
-// that breaks the rules counts as Idle. It takes any record and changes none.
+// that breaks the rules counts as Idle. The methods `is_sending`, `is_forwarding` and `is_four` ask for a state alone. All
+// take any record and change none.
 #![tactic(auto)]
 
 ghost use Rattle.std.specs.Prelude.{◌≡◌, ◌≤◌, eqb};
+ghost use Rattle.modem_record.specs.States.{is_sending, is_forwarding, is_four};
 ghost use Rattle.modem_record.specs.Record.{counts_idle, empty_modem};
 ghost use Rattle.modem_record.specs.Idle.{is_unsuited, is_late, is_held_over};
 
@@ -23,8 +25,26 @@ pub const TWO_WAY: u8 = 5;
 
 pub const RESTING: u8 = 6;
 
+// The default timer values: how long a channel is tried, how long one that forwards waits for a packet, how long the
+// transmitter rests, and how long a modem rests.
+pub const DEFAULT_TDSG1: u16 = 2;
+
+pub const DEFAULT_TDSG2: u16 = 600;
+
+pub const DEFAULT_TDSG3: u16 = 300;
+
+pub const DEFAULT_TDSG4: u16 = 1800;
+
+// The most that a timer can be loaded with, in milliseconds: 65,535 seconds.
+const MOST: u32 = 65535000;
+
+// A bit for each number `8 state + 4 receiveon + 2 hasucid + permission` of a record that is in a state, has the marks of
+// that state and a permission that it allows.
+const SUITED: u64 = 13651674617873152;
+
 // The modem record. Times in milliseconds, timer values in seconds. A mark (`receiveon`, `retryon`, `hasucid`) is 1
 // where the value it belongs to counts, 0 where it does not; permission is 1 or 0. The order leaves no padding.
+// Kept: a C host lends it (`dsg_event` in include/dsg.h): states and marks are numbers, and every value of every byte has a meaning.
 #[repr(C)]
 #[derive(Clone, Copy)]
 pub struct Modem {
@@ -51,10 +71,10 @@ pub fn empty_modem() -> Modem
         last: 0,
         receive: 0,
         retry: 0,
-        tdsg1: 2,
-        tdsg2: 600,
-        tdsg3: 300,
-        tdsg4: 1800,
+        tdsg1: DEFAULT_TDSG1,
+        tdsg2: DEFAULT_TDSG2,
+        tdsg3: DEFAULT_TDSG3,
+        tdsg4: DEFAULT_TDSG4,
         receiveon: 0,
         retryon: 0,
         state: IDLE,
@@ -64,25 +84,54 @@ pub fn empty_modem() -> Modem
     }
 }
 
-// A bit for each number `8 state + 4 receiveon + 2 hasucid + permission` of a record that is in a state, has the marks of
-// that state and a permission that it allows.
-const SUITED: u64 = 13651674617873152;
+impl Modem {
+    // Whether the state is one of the two in which the transmitter is on.
+    pub fn is_sending(self) -> bool
+        ensures { result ≡ is_sending self }
+    {
+        matches!(self.state, RANGING | TWO_WAY)
+    }
 
-// Whether a record is Idle or in no state, or has marks or a permission that its state has not: one test that none of
-// the three numbers is over 1, and one look into `SUITED`.
-fn is_unsuited(state: u8, receiveon: u16, hasucid: u8, permission: u8) -> bool
-    ensures { result ≡ is_unsuited state receiveon hasucid permission }
-{
-    let r = receiveon as u32;
-    let u = hasucid as u32;
-    let p = permission as u32;
-    if 7 < state {
-        return true;
+    // Whether the state is one of the three that forward tunnels.
+    pub fn is_forwarding(self) -> bool
+        ensures { result ≡ is_forwarding self }
+    {
+        matches!(self.state, ONE_WAY | RANGING | TWO_WAY)
     }
-    if 1 < (r | u | p) {
-        return true;
+
+    // Whether the state is one of the four in which the receive timer guards a channel.
+    pub fn is_four(self) -> bool
+        ensures { result ≡ is_four self }
+    {
+        matches!(self.state, CHECKING | ONE_WAY | RANGING | TWO_WAY)
     }
-    suited_bit(state as u32, r, u, p) == 0
+
+    // Whether a record is Idle or in no state, or has marks or a permission that its state has not: one test that none of
+    // the three numbers is over 1, and one look into `SUITED`.
+    fn is_unsuited(self) -> bool
+        ensures { result ≡ is_unsuited self.state self.receiveon self.hasucid self.permission }
+    {
+        let r = u32::from(self.receiveon);
+        let u = u32::from(self.hasucid);
+        let p = u32::from(self.permission);
+        if 7 < self.state {
+            return true;
+        }
+        if 1 < (r | u | p) {
+            return true;
+        }
+        suited_bit(u32::from(self.state), r, u, p) == 0
+    }
+
+    // Whether the retry timer runs where it must not, or shows more than it can be loaded with.
+    fn is_late(self) -> bool
+        ensures { result ≡ is_late self.state self.permission self.retryon self.retry }
+    {
+        if self.retryon == 0 {
+            return false;
+        }
+        (self.retryon != 1) | (self.state != ONE_WAY) | (self.permission != 1) | (MOST < self.retry)
+    }
 }
 
 // The bit of `SUITED` for these four.
@@ -93,22 +142,12 @@ fn suited_bit(state: u32, receiveon: u32, hasucid: u32, permission: u32) -> u64
     (SUITED >> (state * 8 + receiveon * 4 + hasucid * 2 + permission)) % 2
 }
 
-// Whether the retry timer runs where it must not, or shows more than it can be loaded with.
-fn is_late(state: u8, permission: u8, retryon: u16, retry: u32) -> bool
-    ensures { result ≡ is_late state permission retryon retry }
-{
-    if retryon == 0 {
-        return false;
-    }
-    (retryon != 1) | (state != ONE_WAY) | (permission != 1) | (65535000 < retry)
-}
-
 // Whether a timer that runs shows more than it can be loaded with: what it shows, times its mark.
 fn is_held_over(on: u16, left: u32) -> bool
     requires { on ≤ 1 }
     ensures { result ≡ is_held_over on left }
 {
-    65535000 < left * on as u32
+    MOST < left * u32::from(on)
 }
 
 // Whether a record is Idle or breaks a rule. The order of the tests is the one that compiles to the fewest instructions.
@@ -121,10 +160,10 @@ pub fn counts_idle(m: Modem) -> bool
     if m.tdsg2 == 0 {
         return true;
     }
-    if is_late(m.state, m.permission, m.retryon, m.retry) {
+    if m.is_late() {
         return true;
     }
-    if is_unsuited(m.state, m.receiveon, m.hasucid, m.permission) {
+    if m.is_unsuited() {
         return true;
     }
     is_held_over(m.receiveon, m.receive)

@@ -87,7 +87,7 @@ unfoldable pub event_on : Event → Modem → Modem
 event_on (Start p) m = start_row p m.last
 event_on Locked m = locked_row m m
 event_on ScanEmpty m = empty_row m m
-event_on (TableAccepted a b c d) m = table_event a b c d m
+event_on (TableAccepted t) m = table_event t.tdsg1 t.tdsg2 t.tdsg3 t.tdsg4 m
 event_on Packet m = heard_row m m
 event_on Tick m = tick_event m
 event_on Enable m = enable_event m

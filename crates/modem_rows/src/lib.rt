@@ -1,19 +1,21 @@
 // The events of a modem and the rows of the table (document 01, "Modem record"), gathered by event.
 //
-// One public function, `act`, which takes any record, any number and any arguments: what an event does to a record whose
-// clock and timers have moved. A number that names no event leaves the record as it is. The functions stand in the order
-// in which the table first names their events; each row is one `go`, in the columns of the definition `moved`. Every way
-// through a function makes the record field by field (`keep` where nothing changes): a record copied whole on one way
-// and made on another costs the compiled step half as much again.
+// One public function, `act`, which takes any record and any numbers: what an event does to a record whose clock and timers
+// have moved. Numbers that name no event leave the record as it is. The functions stand in the order in which the table
+// first names their events; each row is one record with the fields that it moves, as in the columns of the definition `moved`.
 #![tactic(auto)]
 
 ghost use Rattle.std.specs.Prelude.{◌≡◌, cond, ◌*◌};
-ghost use Rattle.modem_record.specs.States.{ranging, one_way, is_sending, is_forwarding, is_four, is_permitted, loaded, retry_of, ucid_of};
-ghost use Rattle.modem_record.specs.Record.{moved_to, moved, allowed, defaulted, valued};
-ghost use Rattle.modem_rows.specs.Numbers.{start_of, up_of, event_of};
-ghost use Rattle.modem_rows.specs.Events.{start_row, locked_row, empty_row, table_event, heard_row, tick_event, enable_event, lost_row, disable_event, hunt_row, event_on};
+ghost use Rattle.modem_record.specs.States.{ranging, one_way, is_permitted, loaded, retry_of, ucid_of};
+ghost use Rattle.modem_record.specs.Record.{moved, defaulted, valued};
+ghost use Rattle.modem_rows.specs.Numbers.{event_of, numbers_of};
+ghost use Rattle.modem_rows.specs.Events.{start_row, locked_row, empty_row, table_event, heard_row, tick_event, enable_event, up_row, lost_row, disable_event, hunt_row, event_on};
 
-use modem_record::{CHECKING, Modem, ONE_WAY, RANGING, RESTING, SCANNING, TWO_WAY};
+use modem_record::{
+    CHECKING, DEFAULT_TDSG1, DEFAULT_TDSG2, Modem, ONE_WAY, RANGING, RESTING, SCANNING, TWO_WAY,
+    empty_modem,
+};
+use table::TimerValues;
 
 // What happens to a modem, in the order of the table.
 #[derive(Clone, Copy)]
@@ -24,8 +26,8 @@ pub enum Event {
     Locked,
     // No channel was found.
     ScanEmpty,
-    // A table was read; its Tdsg1 to Tdsg4.
-    TableAccepted(u16, u16, u16, u16),
+    // A table was read; its timer values.
+    TableAccepted(TimerValues),
     // A packet came through a tunnel.
     Packet,
     // Time has passed: the only event at which a timer acts.
@@ -46,170 +48,189 @@ pub enum Event {
     Unnamed,
 }
 
-// Whether the state is Ranging or TwoWay.
-fn is_sending(m: Modem) -> bool
-    ensures { result ≡ is_sending m }
-{
-    let s = m.state;
-    (s == RANGING) | (s == TWO_WAY)
+// The numbers of the events, as a C host has them.
+pub const START: u8 = 1;
+
+const LOCKED: u8 = 2;
+
+const SCAN_EMPTY: u8 = 3;
+
+const TABLE_ACCEPTED: u8 = 4;
+
+const PACKET: u8 = 5;
+
+const TICK: u8 = 6;
+
+const ENABLE: u8 = 7;
+
+const UPSTREAM_UP: u8 = 8;
+
+const UPSTREAM_LOST: u8 = 9;
+
+const DISABLE: u8 = 10;
+
+const HUNT: u8 = 11;
+
+const DOWNSTREAM_LOST: u8 = 12;
+
+const UNNAMED: u8 = 0;
+
+// An event as a C host names it: its number, and four arguments, of which those that it does not carry are not looked at.
+#[derive(Clone, Copy)]
+pub struct Numbers {
+    pub kind: u8,
+    pub a: u16,
+    pub b: u16,
+    pub c: u16,
+    pub d: u16,
 }
 
-// Whether the state is one of the three that forward tunnels.
-fn is_forwarding(m: Modem) -> bool
-    ensures { result ≡ is_forwarding m }
-{
-    let s = m.state;
-    (s == ONE_WAY) | (s == RANGING) | (s == TWO_WAY)
+impl From<Numbers> for Event {
+    ghost from_gives = { λ n e. e ≡ event_of n.kind n.a n.b n.c n.d };
+
+    // The event that the numbers name.
+    #[tactic(auto, unfolding(crate::specs::Numbers::event_of))]
+    fn from(n: Numbers) -> Event {
+        match n.kind {
+            START if n.a < 2 => Event::Start(n.a == 1),
+            LOCKED => Event::Locked,
+            SCAN_EMPTY => Event::ScanEmpty,
+            TABLE_ACCEPTED => Event::TableAccepted(TimerValues {
+                tdsg1: n.a,
+                tdsg2: n.b,
+                tdsg3: n.c,
+                tdsg4: n.d,
+            }),
+            PACKET => Event::Packet,
+            TICK => Event::Tick,
+            ENABLE => Event::Enable,
+            UPSTREAM_UP if n.a < 256 => Event::UpstreamUp(n.a as u8),
+            UPSTREAM_LOST => Event::UpstreamLost,
+            DISABLE => Event::Disable,
+            HUNT => Event::Hunt,
+            DOWNSTREAM_LOST => Event::DownstreamLost,
+            _ => Event::Unnamed,
+        }
+    }
 }
 
-// A mark for a fact.
-fn mark(fact: bool) -> u8
-    ensures { result ≡ cond fact 1 0 }
+// An event that carries nothing.
+fn bare(kind: u8) -> Numbers
+    ensures { result ≡ record { kind = kind; a = 0; b = 0; c = 0; d = 0 } }
 {
-    if fact { 1 } else { 0 }
+    Numbers {
+        kind,
+        a: 0,
+        b: 0,
+        c: 0,
+        d: 0,
+    }
+}
+
+impl From<Event> for Numbers {
+    ghost from_gives = { λ e n. (n ≡ numbers_of e) × (event_of n.kind n.a n.b n.c n.d ≡ e) };
+
+    // The numbers that name an event.
+    #[tactic(auto, unfolding(crate::specs::Numbers::event_of))]
+    fn from(event: Event) -> Numbers {
+        match event {
+            Event::Start(permitted) => Numbers {
+                a: u16::from(permitted),
+                ..bare(START)
+            },
+            Event::Locked => bare(LOCKED),
+            Event::ScanEmpty => bare(SCAN_EMPTY),
+            Event::TableAccepted(timers) => Numbers {
+                kind: TABLE_ACCEPTED,
+                a: timers.tdsg1,
+                b: timers.tdsg2,
+                c: timers.tdsg3,
+                d: timers.tdsg4,
+            },
+            Event::Packet => bare(PACKET),
+            Event::Tick => bare(TICK),
+            Event::Enable => bare(ENABLE),
+            Event::UpstreamUp(ucid) => Numbers {
+                a: u16::from(ucid),
+                ..bare(UPSTREAM_UP)
+            },
+            Event::UpstreamLost => bare(UPSTREAM_LOST),
+            Event::Disable => bare(DISABLE),
+            Event::Hunt => bare(HUNT),
+            Event::DownstreamLost => bare(DOWNSTREAM_LOST),
+            Event::Unnamed => bare(UNNAMED),
+        }
+    }
 }
 
 // Seconds in milliseconds.
 fn milliseconds(seconds: u16) -> u32
     ensures { result ≡ seconds * 1000 }
 {
-    seconds as u32 * 1000
-}
-
-// Whether the state is one of the four in which the receive timer guards a channel.
-fn is_four(m: Modem) -> bool
-    ensures { result ≡ is_four m }
-{
-    let s = m.state;
-    (s == CHECKING) | (s == ONE_WAY) | (s == RANGING) | (s == TWO_WAY)
-}
-
-// The record in a state, with a UCID, a receive and a retry timer, each after its mark.
-fn go(
-    m: Modem,
-    state: u8,
-    hasucid: u8,
-    ucid: u8,
-    receiveon: u16,
-    receive: u32,
-    retryon: u16,
-    retry: u32,
-) -> Modem
-    ensures { result ≡ moved_to m state hasucid ucid receiveon receive retryon retry }
-{
-    Modem {
-        last: m.last,
-        receive,
-        retry,
-        tdsg1: m.tdsg1,
-        tdsg2: m.tdsg2,
-        tdsg3: m.tdsg3,
-        tdsg4: m.tdsg4,
-        receiveon,
-        retryon,
-        state,
-        permission: m.permission,
-        hasucid,
-        ucid,
-    }
-}
-
-// The record with another permission.
-fn allow(m: Modem, permission: u8) -> Modem
-    ensures { result ≡ allowed m permission }
-{
-    Modem {
-        last: m.last,
-        receive: m.receive,
-        retry: m.retry,
-        tdsg1: m.tdsg1,
-        tdsg2: m.tdsg2,
-        tdsg3: m.tdsg3,
-        tdsg4: m.tdsg4,
-        receiveon: m.receiveon,
-        retryon: m.retryon,
-        state: m.state,
-        permission,
-        hasucid: m.hasucid,
-        ucid: m.ucid,
-    }
-}
-
-// The record as it is, field by field.
-fn keep(m: Modem) -> Modem
-    ensures { result ≡ m }
-{
-    go(
-        m,
-        m.state,
-        m.hasucid,
-        m.ucid,
-        m.receiveon,
-        m.receive,
-        m.retryon,
-        m.retry,
-    )
+    u32::from(seconds) * 1000
 }
 
 // Start.
+#[tactic(auto, unfolding(crate::specs::Events::start_row))]
 fn start(clock: u32, permitted: bool) -> Modem
     ensures { result ≡ start_row permitted clock }
 {
-    let permission = mark(permitted);
     Modem {
         last: clock,
-        receive: 0,
-        retry: 0,
-        tdsg1: 2,
-        tdsg2: 600,
-        tdsg3: 300,
-        tdsg4: 1800,
-        receiveon: 0,
-        retryon: 0,
         state: SCANNING,
-        permission,
-        hasucid: 0,
-        ucid: 0,
+        permission: u8::from(permitted),
+        ..empty_modem()
     }
 }
 
 // Locked.
+#[tactic(auto, unfolding(crate::specs::Events::locked_row))]
 fn lock(m: Modem) -> Modem
     ensures { result ≡ locked_row m m }
 {
     if m.state == SCANNING {
-        let receive = milliseconds(m.tdsg1);
-        return go(
-            m, CHECKING, m.hasucid, m.ucid, 1, receive, m.retryon, m.retry,
-        );
+        Modem {
+            state: CHECKING,
+            receiveon: 1,
+            receive: milliseconds(m.tdsg1),
+            ..m
+        }
+    } else {
+        m
     }
-    keep(m)
 }
 
 // Scan empty.
+#[tactic(auto, unfolding(crate::specs::Events::empty_row))]
 fn give_up(m: Modem) -> Modem
     ensures { result ≡ empty_row m m }
 {
     if m.state == SCANNING {
-        let receive = milliseconds(m.tdsg4);
-        return go(
-            m, RESTING, m.hasucid, m.ucid, 1, receive, m.retryon, m.retry,
-        );
+        Modem {
+            state: RESTING,
+            receiveon: 1,
+            receive: milliseconds(m.tdsg4),
+            ..m
+        }
+    } else {
+        m
     }
-    keep(m)
 }
 
 // A packet, or a table in a forwarding state: the receive timer runs anew.
+#[tactic(auto, unfolding(crate::specs::Events::heard_row))]
 fn hear(m: Modem) -> Modem
     ensures { result ≡ heard_row m m }
 {
-    if is_forwarding(m) {
-        let receive = milliseconds(m.tdsg2);
-        return go(
-            m, m.state, m.hasucid, m.ucid, 1, receive, m.retryon, m.retry,
-        );
+    if m.is_forwarding() {
+        Modem {
+            receiveon: 1,
+            receive: milliseconds(m.tdsg2),
+            ..m
+        }
+    } else {
+        m
     }
-    keep(m)
 }
 
 // A timer value as a table gives it: 0 counts as its default.
@@ -220,25 +241,15 @@ fn or_default(value: u16, default: u16) -> u16
 }
 
 // The record with the timer values of a table.
-fn value(m: Modem, a: u16, b: u16, c: u16, d: u16) -> Modem
-    ensures { result ≡ valued m a b c d }
+fn value(m: Modem, timers: TimerValues) -> Modem
+    ensures { result ≡ valued m timers.tdsg1 timers.tdsg2 timers.tdsg3 timers.tdsg4 }
 {
-    let tdsg1 = or_default(a, 2);
-    let tdsg2 = or_default(b, 600);
     Modem {
-        last: m.last,
-        receive: m.receive,
-        retry: m.retry,
-        tdsg1,
-        tdsg2,
-        tdsg3: c,
-        tdsg4: d,
-        receiveon: m.receiveon,
-        retryon: m.retryon,
-        state: m.state,
-        permission: m.permission,
-        hasucid: m.hasucid,
-        ucid: m.ucid,
+        tdsg1: or_default(timers.tdsg1, DEFAULT_TDSG1),
+        tdsg2: or_default(timers.tdsg2, DEFAULT_TDSG2),
+        tdsg3: timers.tdsg3,
+        tdsg4: timers.tdsg4,
+        ..m
     }
 }
 
@@ -246,141 +257,181 @@ fn value(m: Modem, a: u16, b: u16, c: u16, d: u16) -> Modem
 fn leave_checking(n: Modem) -> Modem
     ensures { result ≡ moved n (cond (is_permitted n) ranging one_way) (ucid_of n) (loaded n.tdsg2) (retry_of n) }
 {
-    let receive = milliseconds(n.tdsg2);
-    if n.permission == 1 {
-        return go(
-            n, RANGING, n.hasucid, n.ucid, 1, receive, n.retryon, n.retry,
-        );
+    Modem {
+        state: if n.permission == 1 { RANGING } else { ONE_WAY },
+        receiveon: 1,
+        receive: milliseconds(n.tdsg2),
+        ..n
     }
-    go(
-        n, ONE_WAY, n.hasucid, n.ucid, 1, receive, n.retryon, n.retry,
-    )
 }
 
 // Table accepted: the values first, then the receive timer from the new Tdsg2.
-fn accept(m: Modem, a: u16, b: u16, c: u16, d: u16) -> Modem
-    ensures { result ≡ table_event a b c d m }
+#[tactic(auto, unfolding(crate::specs::Events::table_event, crate::specs::Events::table_row, crate::specs::Events::heard_row))]
+fn accept(m: Modem, timers: TimerValues) -> Modem
+    ensures { result ≡ table_event timers.tdsg1 timers.tdsg2 timers.tdsg3 timers.tdsg4 m }
 {
-    let n = value(m, a, b, c, d);
+    let n = value(m, timers);
     if m.state == CHECKING {
         return leave_checking(n);
     }
-    if is_forwarding(m) {
+    if m.is_forwarding() {
         return hear(n);
     }
-    keep(m)
+    m
 }
 
 // Tick: the receive timer at 0 first, then the retry timer.
+#[tactic(auto, unfolding(crate::specs::Events::tick_event, crate::specs::Events::rest_row, crate::specs::Events::wake_row, crate::specs::Events::retry_row))]
 fn tick(m: Modem) -> Modem
     ensures { result ≡ tick_event m }
 {
     let silent = (m.receiveon != 0) & (m.receive == 0);
-    if is_four(m) & silent {
-        let receive = milliseconds(m.tdsg4);
-        return go(m, RESTING, 0, 0, 1, receive, 0, 0);
+    if m.is_four() & silent {
+        return Modem {
+            state: RESTING,
+            hasucid: 0,
+            ucid: 0,
+            receiveon: 1,
+            receive: milliseconds(m.tdsg4),
+            retryon: 0,
+            retry: 0,
+            ..m
+        };
     }
     if (m.state == RESTING) & silent {
-        return go(m, SCANNING, m.hasucid, m.ucid, 0, 0, m.retryon, m.retry);
+        return Modem {
+            state: SCANNING,
+            receiveon: 0,
+            receive: 0,
+            ..m
+        };
     }
     if (m.state == ONE_WAY) & ((m.retryon != 0) & (m.retry == 0)) & (m.permission == 1) {
-        return go(m, RANGING, m.hasucid, m.ucid, m.receiveon, m.receive, 0, 0);
+        return Modem {
+            state: RANGING,
+            retryon: 0,
+            retry: 0,
+            ..m
+        };
     }
-    keep(m)
+    m
 }
 
 // Enable.
+#[tactic(auto, unfolding(crate::specs::Events::enable_event, crate::specs::Events::enable_row))]
 fn enable(m: Modem) -> Modem
     ensures { result ≡ enable_event m }
 {
-    let n = allow(m, 1);
     if m.state == ONE_WAY {
-        return go(n, RANGING, m.hasucid, m.ucid, m.receiveon, m.receive, 0, 0);
+        Modem {
+            permission: 1,
+            state: RANGING,
+            retryon: 0,
+            retry: 0,
+            ..m
+        }
+    } else {
+        Modem { permission: 1, ..m }
     }
-    n
 }
 
-// Upstream up, with a UCID that is a byte.
-fn rise(m: Modem, ucid: u16) -> Modem
-    ensures { result ≡ event_on (up_of ucid) m }
+// Upstream up.
+#[tactic(auto, unfolding(crate::specs::Events::up_row))]
+fn rise(m: Modem, ucid: u8) -> Modem
+    ensures { result ≡ up_row ucid m m }
 {
-    if ucid < 256 {
-        if m.state == RANGING {
-            return go(
-                m,
-                TWO_WAY,
-                1,
-                ucid as u8,
-                m.receiveon,
-                m.receive,
-                m.retryon,
-                m.retry,
-            );
+    if m.state == RANGING {
+        Modem {
+            state: TWO_WAY,
+            hasucid: 1,
+            ucid,
+            ..m
         }
-        return keep(m);
+    } else {
+        m
     }
-    keep(m)
 }
 
 // Upstream lost.
+#[tactic(auto, unfolding(crate::specs::Events::lost_row))]
 fn lose(m: Modem) -> Modem
     ensures { result ≡ lost_row m m }
 {
-    if is_sending(m) {
-        let retry = milliseconds(m.tdsg3);
-        return go(m, ONE_WAY, 0, 0, m.receiveon, m.receive, 1, retry);
+    if m.is_sending() {
+        Modem {
+            state: ONE_WAY,
+            hasucid: 0,
+            ucid: 0,
+            retryon: 1,
+            retry: milliseconds(m.tdsg3),
+            ..m
+        }
+    } else {
+        m
     }
-    keep(m)
 }
 
 // Disable: the retry timer is stopped in every state.
+#[tactic(auto, unfolding(crate::specs::Events::disable_event, crate::specs::Events::disable_row))]
 fn disable(m: Modem) -> Modem
     ensures { result ≡ disable_event m }
 {
-    let n = allow(m, 0);
-    if is_sending(m) {
-        return go(n, ONE_WAY, 0, 0, m.receiveon, m.receive, 0, 0);
+    let n = Modem {
+        permission: 0,
+        retryon: 0,
+        retry: 0,
+        ..m
+    };
+    if m.is_sending() {
+        Modem {
+            state: ONE_WAY,
+            hasucid: 0,
+            ucid: 0,
+            ..n
+        }
+    } else {
+        n
     }
-    go(n, m.state, m.hasucid, m.ucid, m.receiveon, m.receive, 0, 0)
 }
 
 // Hunt, or the channel is gone.
+#[tactic(auto, unfolding(crate::specs::Events::hunt_row))]
 fn hunt(m: Modem) -> Modem
     ensures { result ≡ hunt_row m m }
 {
-    if is_four(m) {
-        return go(m, SCANNING, 0, 0, 0, 0, 0, 0);
+    if m.is_four() {
+        Modem {
+            state: SCANNING,
+            hasucid: 0,
+            ucid: 0,
+            receiveon: 0,
+            receive: 0,
+            retryon: 0,
+            retry: 0,
+            ..m
+        }
+    } else {
+        m
     }
-    keep(m)
 }
 
-// Start, with a permission that is 0 or 1.
-fn begin(m: Modem, permission: u16) -> Modem
-    ensures { result ≡ event_on (start_of permission) m }
+// What an event does to a record whose clock and timers have moved. The event comes by its numbers.
+#[tactic(auto, unfolding(crate::specs::Events::event_on))]
+pub fn act(m: Modem, numbers: Numbers) -> Modem
+    ensures { result ≡ event_on (event_of numbers.kind numbers.a numbers.b numbers.c numbers.d) m }
 {
-    if permission < 2 {
-        return start(m.last, permission == 1);
-    }
-    keep(m)
-}
-
-// What an event does to a record whose clock and timers have moved. The event comes by its number.
-pub fn act(m: Modem, kind: u8, a: u16, b: u16, c: u16, d: u16) -> Modem
-    ensures { result ≡ event_on (event_of kind a b c d) m }
-{
-    match kind {
-        1 => begin(m, a),
-        2 => lock(m),
-        3 => give_up(m),
-        4 => accept(m, a, b, c, d),
-        5 => hear(m),
-        6 => tick(m),
-        7 => enable(m),
-        8 => rise(m, a),
-        9 => lose(m),
-        10 => disable(m),
-        11 => hunt(m),
-        12 => hunt(m),
-        _ => keep(m),
+    match Event::from(numbers) {
+        Event::Start(permitted) => start(m.last, permitted),
+        Event::Locked => lock(m),
+        Event::ScanEmpty => give_up(m),
+        Event::TableAccepted(timers) => accept(m, timers),
+        Event::Packet => hear(m),
+        Event::Tick => tick(m),
+        Event::Enable => enable(m),
+        Event::UpstreamUp(ucid) => rise(m, ucid),
+        Event::UpstreamLost => lose(m),
+        Event::Disable => disable(m),
+        Event::Hunt | Event::DownstreamLost => hunt(m),
+        Event::Unnamed => m,
     }
 }

@@ -2,21 +2,16 @@
 --
 --   stepped_modem-start, -acts, -ignored, -back, -taken   one for each answer, in the order of the tests
 --   is_start-numbers    which numbers name a Start
---   numbered_step-taken, -back, -ignored   one for each way through the gate
 --   answer_of_back      the answer of an answer's number
 -- Trusts: nothing.
-use Rattle.std.proofs.Common.{◌≡◌, ℕ, Bool, true, false, cond, ◌&&◌, eqb, ltb, refl, arith}
+use Rattle.std.proofs.Common.{◌≡◌, ℕ, Bool, true, false, cond, ◌&&◌, eqb, ltb, refl}
 use Rattle.modem_record.specs.declared.Modem.{Modem}
 use Rattle.modem_rows.specs.declared.Event.{Event}
 use Rattle.modem_rows.specs.declared.Event.TheVariants.{Start}
-use Rattle.modem_step.specs.declared.Numbered.{Numbered}
-use Rattle.modem_step.specs.declared.Answer.{Answer}
-use Rattle.modem_step.specs.declared.Answer.TheVariants.{Done, ClockBack}
 use Rattle.modem_record.specs.Record.{counts_idle}
 use Rattle.modem_rows.specs.Events.{start_row, event_on}
-use Rattle.modem_step.specs.Step.{is_back, aged, is_start, answer_number, answer_of, stepped_modem}
+use Rattle.modem_step.specs.Step.{Answer, Done, ClockBack, is_back, aged, is_start, answer_number, answer_of, stepped_modem}
 use Rattle.modem_rows.specs.Numbers.{start_of, event_of}
-use Rattle.modem_step.specs.Numbers.{gate_of, numbered_step}
 
 pub and_left : (a b : Bool) → a && b ≡ true → a ≡ true
 and_left true b h = refl
@@ -57,10 +52,6 @@ cond_false : (t : Bool) → cond t false false ≡ false
 cond_false true = refl
 cond_false false = refl
 
-pub cond-zero : (t : Bool) → ◌≡◌ {A = ℕ} (cond t 0 0) 0
-cond-zero true = refl
-cond-zero false = refl
-
 cond_and : (t u : Bool) → cond t (cond u true false) false ≡ t && u
 cond_and true true = refl
 cond_and true false = refl
@@ -73,42 +64,6 @@ is_start-numbers kind a b c d = simp (is_start-cond, cond_false) (cond_and (eqb 
 pub start_of_mark : (p : Bool) → start_of (cond p 1 0) ≡ Start p
 start_of_mark true = refl
 start_of_mark false = refl
-
-module _ (m : Modem) (now kind a b c d : ℕ) where
-  abbrev Step : Numbered → Type 0
-  Step s = numbered_step m now kind a b c d ≡ s
-
-  -- what the gate says, by the three tests that it makes
-  gated : (P : ℕ → Type 0) → (is_start (event_of kind a b c d) ≡ true → P 0) → (is_start (event_of kind a b c d) ≡ false → counts_idle m ≡ true → P 1)
-      → (is_start (event_of kind a b c d) ≡ false → counts_idle m ≡ false → is_back now m.last ≡ true → P 18)
-      → (is_start (event_of kind a b c d) ≡ false → counts_idle m ≡ false → is_back now m.last ≡ false → P 0) → P (gate_of m now kind a)
-  unfolding gate_of
-  gated P starts ignored back taken = go (eqb kind 1 && ltb a 2) (counts_idle m) (is_back now m.last) (is_start-numbers kind a b c d) refl refl
-    where
-      go : (s i k : Bool) → is_start (event_of kind a b c d) ≡ s → counts_idle m ≡ i → is_back now m.last ≡ k → P (cond s 0 (cond i 1 (cond k 18 0)))
-      go true i k hs hi hk = starts hs
-      go false true k hs hi hk = ignored hs hi
-      go false false true hs hi hk = back hs hi hk
-      go false false false hs hi hk = taken hs hi hk
-
-  pub numbered_step-taken : gate_of m now kind a ≡ 0 → Step (record { answer = 0; modem = event_on (event_of kind a b c d) (aged m now) })
-  unfolding numbered_step
-  numbered_step-taken =
-      gated (λ g. g ≡ 0 → Step (record { answer = 0; modem = event_on (event_of kind a b c d) (aged m now) }))
-      (λ s h. rw (stepped_modem_acts m now (event_of kind a b c d) s)) (λ s i h. absurd (omega arith)) (λ s i k h. absurd (omega arith))
-      (λ s i k h. rw (stepped_modem-taken m now (event_of kind a b c d) s i k))
-
-  pub numbered_step_back : gate_of m now kind a ≡ 18 → Step (record { answer = 18; modem = m })
-  unfolding numbered_step
-  numbered_step_back =
-      gated (λ g. g ≡ 18 → Step (record { answer = 18; modem = m }))
-      (λ s h. absurd (omega arith)) (λ s i h. absurd (omega arith)) (λ s i k h. rw (stepped_modem_back m now (event_of kind a b c d) s i k)) (λ s i k h. absurd (omega arith))
-
-  pub numbered_step_ignored : (gate_of m now kind a ≡ 0 → ⊥) → (gate_of m now kind a ≡ 18 → ⊥) → Step (record { answer = 0; modem = m })
-  unfolding numbered_step
-  numbered_step_ignored =
-      gated (λ g. (g ≡ 0 → ⊥) → (g ≡ 18 → ⊥) → Step (record { answer = 0; modem = m }))
-      (λ s h k. absurd (h refl)) (λ s i h k. rw (stepped_modem_ignored m now (event_of kind a b c d) s i)) (λ s i b h k. absurd (k refl)) (λ s i b h k. absurd (h refl))
 
 pub answer_of_back : (answer : Answer) → answer_of (answer_number answer) ≡ answer
 answer_of_back Done = refl

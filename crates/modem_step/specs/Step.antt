@@ -2,6 +2,7 @@
 --
 --   clock_step now last     now minus last on the 32-bit clock;  is_back now last   the step is half the range or more
 --   aged m now             the record with its clock and its running timers moved to now
+--   Answer, Stepped        what an event is answered; that, and the record after it
 --   answer_number, answer_of this paper's number of an answer, and the answer of a number
 --   stepped_modem m now ev  the answer and the record after the event;  next_modem   that record alone
 --
@@ -11,9 +12,6 @@ use Rattle.std.specs.Prelude.{ℕ, ◌+◌, ◌-◌, ◌%◌, ◌^◌, Bool, tru
 use Rattle.modem_record.specs.declared.Modem.{Modem}
 use Rattle.modem_rows.specs.declared.Event.{Event}
 use Rattle.modem_rows.specs.declared.Event.TheVariants.{Start, Locked, ScanEmpty, TableAccepted, Packet, Tick, Enable, UpstreamUp, UpstreamLost, Disable, Hunt, DownstreamLost, Unnamed}
-use Rattle.modem_step.specs.declared.Answer.{Answer}
-use Rattle.modem_step.specs.declared.Answer.TheVariants.{Done, ClockBack}
-use Rattle.modem_step.specs.declared.Stepped.{Stepped}
 use Rattle.modem_record.specs.Record.{counts_idle}
 use Rattle.modem_rows.specs.Events.{event_on}
 
@@ -35,7 +33,7 @@ unfoldable pub is_start : Event → Bool
 is_start (Start p) = true
 is_start Locked = false
 is_start ScanEmpty = false
-is_start (TableAccepted a b c d) = false
+is_start (TableAccepted t) = false
 is_start Packet = false
 is_start Tick = false
 is_start Enable = false
@@ -45,6 +43,15 @@ is_start Disable = false
 is_start Hunt = false
 is_start DownstreamLost = false
 is_start Unnamed = false
+
+-- taken, or ignored as Idle ignores it; refusal 18, the clock went back
+pub data Answer : Type 0 where
+  Done : Answer
+  ClockBack : Answer
+
+pub record Stepped : Type 0 where
+  pub answer : Answer
+  pub modem : Modem
 
 -- no answer has an offset but 0
 abbrev pub answer_number : Answer → ℕ

@@ -8,10 +8,11 @@ use modem_record::Modem;
 pub(crate) fn elapsed(clock: u32, last: u32) -> u32
     ensures { result ≡ clock_step clock last }
 {
-    std::num::wrapping_sub_u32(clock, last)
+    clock.wrapping_sub(last)
 }
 
 // Whether the clock went back: half of its range decides.
+#[tactic(auto, unfolding(crate::specs::Step::is_back))]
 pub(crate) fn is_back(clock: u32, last: u32) -> bool
     ensures { result ≡ is_back clock last }
 {
@@ -19,13 +20,15 @@ pub(crate) fn is_back(clock: u32, last: u32) -> bool
 }
 
 // What a timer shows after a step.
+#[tactic(auto, unfolding(crate::specs::Step::fallen))]
 fn fall(on: u16, left: u32, by: u32) -> u32
     ensures { result ≡ fallen on left by }
 {
     if on == 0 {
-        return left;
+        left
+    } else {
+        left.saturating_sub(by)
     }
-    if by < left { left - by } else { 0 }
 }
 
 // The clock and the running timers moved.
@@ -33,21 +36,10 @@ pub(crate) fn age(m: Modem, clock: u32) -> Modem
     ensures { result ≡ aged m clock }
 {
     let by = elapsed(clock, m.last);
-    let receive = fall(m.receiveon, m.receive, by);
-    let retry = fall(m.retryon, m.retry, by);
     Modem {
         last: clock,
-        receive,
-        retry,
-        tdsg1: m.tdsg1,
-        tdsg2: m.tdsg2,
-        tdsg3: m.tdsg3,
-        tdsg4: m.tdsg4,
-        receiveon: m.receiveon,
-        retryon: m.retryon,
-        state: m.state,
-        permission: m.permission,
-        hasucid: m.hasucid,
-        ucid: m.ucid,
+        receive: fall(m.receiveon, m.receive, by),
+        retry: fall(m.retryon, m.retry, by),
+        ..m
     }
 }

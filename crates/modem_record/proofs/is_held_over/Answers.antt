@@ -4,4 +4,4 @@ use Rattle.modem_record.proofs.LawsIdle.{is_held_over-mark}
 use Rattle.modem_record.proofs.is_held_over.Goals as goal
 
 pub returns : goal.returns
-returns c = is_held_over-mark c.args.on c.args.left c.requires
+returns c = rw c.from.ensures (is_held_over-mark c.args.on c.args.left c.requires)
