@@ -2,9 +2,11 @@
 --
 --   stepped_modem-start, -acts, -ignored, -back, -taken   one for each answer, in the order of the tests
 --   is_start-numbers    which numbers name a Start
+--   off_left, off_right   a Start, or a test that fails: no other event meets the test
+--   numbered_step_ignored, _back, -taken   one for each way out of the step
 --   answer_of_back      the answer of an answer's number
 -- Trusts: nothing.
-use Rattle.std.proofs.Common.{◌≡◌, ℕ, Bool, true, false, cond, ◌&&◌, eqb, ltb, refl}
+use Rattle.std.proofs.Common.{◌≡◌, ℕ, Bool, true, false, cond, not, ◌&&◌, eqb, ltb, refl}
 use Rattle.modem_record.specs.declared.Modem.{Modem}
 use Rattle.modem_rows.specs.declared.Event.{Event}
 use Rattle.modem_rows.specs.declared.Event.TheVariants.{Start}
@@ -12,6 +14,7 @@ use Rattle.modem_record.specs.Record.{counts_idle}
 use Rattle.modem_rows.specs.Events.{start_row, event_on}
 use Rattle.modem_step.specs.Step.{Answer, Done, ClockBack, is_back, aged, is_start, answer_number, answer_of, stepped_modem}
 use Rattle.modem_rows.specs.Numbers.{start_of, event_of}
+use Rattle.modem_step.specs.Numbers.{Numbered, numbered_step}
 
 pub and_left : (a b : Bool) → a && b ≡ true → a ≡ true
 and_left true b h = refl
@@ -64,6 +67,33 @@ is_start-numbers kind a b c d = simp (is_start-cond, cond_false) (cond_and (eqb 
 pub start_of_mark : (p : Bool) → start_of (cond p 1 0) ≡ Start p
 start_of_mark true = refl
 start_of_mark false = refl
+
+pub off_left : (s i : Bool) → s ≡ true → not s && i ≡ false
+off_left s i e = rw e
+
+pub off_right : (s i : Bool) → i ≡ false → not s && i ≡ false
+off_right true i e = refl
+off_right false i e = e
+
+module _ (m : Modem) (now kind a b c d : ℕ) where
+  abbrev Step : Numbered → Type 0
+  Step s = s ≡ numbered_step m now kind a b c d
+
+  abbrev starts : Bool
+  starts = eqb kind 1 && ltb a 2
+
+  pub numbered_step_ignored : starts ≡ false → counts_idle m ≡ true → Step (record { answer = 0; modem = m })
+  unfolding numbered_step stepped_modem
+  numbered_step_ignored s i = rw (is_start-numbers, s, i)
+
+  pub numbered_step_back : not starts && counts_idle m ≡ false → starts ≡ false → is_back now m.last ≡ true → Step (record { answer = 18; modem = m })
+  unfolding numbered_step stepped_modem
+  numbered_step_back i s b = rw (is_start-numbers, i, s, b)
+
+  pub numbered_step-taken : not starts && counts_idle m ≡ false → not starts && is_back now m.last ≡ false
+      → Step (record { answer = 0; modem = event_on (event_of kind a b c d) (aged m now) })
+  unfolding numbered_step stepped_modem
+  numbered_step-taken i b = rw (is_start-numbers, i, b)
 
 pub answer_of_back : (answer : Answer) → answer_of (answer_number answer) ≡ answer
 answer_of_back Done = refl
