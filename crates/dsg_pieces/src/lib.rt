@@ -12,10 +12,12 @@ ghost use Rattle.dsg_pieces.specs.Bodies.{complete_at, collected_of, collect_aft
 
 use collection::Collection;
 use collector::Answer;
-use messages::Place;
+use messages::{Place, Source};
 use receiver::Report;
+use refusals::Refusal;
 use table::Table;
 
+// Kept: lent to C (include/dsg.h), fields, order and types, as of `Received`.
 // What a body is answered. Kind 0: refused, `number` says why. 1: a repeat. 2: waiting for `empty` slots.
 // 3, 4: complete; the message is `length` bytes from `start` of the body (3) or of the join buffer (4).
 // 5: dropped, by `number` (21) at byte `offset`.
@@ -42,6 +44,23 @@ pub struct Received {
     pub offset: usize,
 }
 
+// What a kind does not use.
+const NOTHING_COLLECTED: Collected = Collected {
+    kind: 0,
+    number: 0,
+    empty: 0,
+    start: 0,
+    length: 0,
+    offset: 0,
+};
+
+const NOTHING_RECEIVED: Received = Received {
+    kind: 0,
+    number: 0,
+    empty: 0,
+    offset: 0,
+};
+
 // An answer, and the record and the table after it.
 #[derive(Clone, Copy)]
 pub struct ReceiveStepped {
@@ -57,69 +76,48 @@ pub struct CollectStepped {
     pub held: Collection,
 }
 
+// The numbers of a message that is complete, by where it stands.
+fn complete_from(place: Place) -> Collected
+    ensures { result ≡ complete_at (placed (Some place)) }
+{
+    let kind = match place.source {
+        Source::Body => 3,
+        Source::Join => 4,
+    };
+    Collected {
+        kind,
+        start: place.start,
+        length: place.length,
+        ..NOTHING_COLLECTED
+    }
+}
+
 // The numbers of an answer; `number` is that of the record after it.
+#[tactic(auto, unfolding(refusals::specs::Refusals::number_of))]
 fn collected_from(answer: Answer, number: u8) -> Collected
     ensures { result ≡ collected_of (said answer) number }
 {
     match answer {
         Answer::Refused(refusal) => Collected {
-            kind: 0,
             number: refusal.number() as u32,
-            empty: 0,
-            start: 0,
-            length: 0,
-            offset: 0,
+            ..NOTHING_COLLECTED
         },
         Answer::Repeat => Collected {
             kind: 1,
-            number: 0,
-            empty: 0,
-            start: 0,
-            length: 0,
-            offset: 0,
+            ..NOTHING_COLLECTED
         },
-        Answer::Waiting(k) => Collected {
+        Answer::Waiting(empty) => Collected {
             kind: 2,
-            number: 0,
-            empty: k as usize,
-            start: 0,
-            length: 0,
-            offset: 0,
+            empty: empty as usize,
+            ..NOTHING_COLLECTED
         },
-        Answer::Complete(_) => complete_from(messages::find_message(answer, number)),
-        Answer::Dropped(cut) => Collected {
+        Answer::Complete(length) => complete_from(messages::place_message(length, number)),
+        Answer::Dropped(offset) => Collected {
             kind: 5,
-            number: 21,
-            empty: 0,
-            start: 0,
-            length: 0,
-            offset: cut,
+            number: Refusal::BadCut.number() as u32,
+            offset,
+            ..NOTHING_COLLECTED
         },
-    }
-}
-
-// The numbers of a message that is complete, by where it stands.
-fn complete_from(place: Place) -> Collected
-    ensures { result ≡ complete_at (placed place) }
-{
-    if place.source == messages::IN_BODY {
-        Collected {
-            kind: 3,
-            number: 0,
-            empty: 0,
-            start: place.start,
-            length: place.length,
-            offset: 0,
-        }
-    } else {
-        Collected {
-            kind: 4,
-            number: 0,
-            empty: 0,
-            start: place.start,
-            length: place.length,
-            offset: 0,
-        }
     }
 }
 
@@ -149,55 +147,46 @@ pub fn collect_value(
     ensures { record { answer = result.answer; held = result.held; slots = slots.new; join = join.new } ≡ collect_after held slots.old join.old body.now }
 {
     let outcome = collector::collect(apart(held), slots, join, body);
-    let answer = outcome.answer;
-    let next = outcome.held;
-    let collected = collected_from(answer, next.number);
     CollectStepped {
-        answer: collected,
-        held: next,
+        answer: collected_from(outcome.answer, outcome.held.number),
+        held: outcome.held,
     }
 }
 
 // The numbers of a report.
+#[tactic(auto, unfolding(refusals::specs::Refusals::number_of))]
 fn received_from(report: Report) -> Received
     ensures { result ≡ received_of (told report) }
 {
     match report {
         Report::BodyRefused(refusal) => Received {
-            kind: 0,
             number: refusal.number() as u32,
-            empty: 0,
-            offset: 0,
+            ..NOTHING_RECEIVED
         },
         Report::Repeat => Received {
             kind: 1,
-            number: 0,
-            empty: 0,
-            offset: 0,
+            ..NOTHING_RECEIVED
         },
-        Report::Waiting(k) => Received {
+        Report::Waiting(empty) => Received {
             kind: 2,
-            number: 0,
-            empty: k as usize,
-            offset: 0,
+            empty: empty as usize,
+            ..NOTHING_RECEIVED
         },
         Report::Accepted => Received {
             kind: 3,
-            number: 0,
-            empty: 0,
-            offset: 0,
+            ..NOTHING_RECEIVED
         },
-        Report::MessageRefused(n, offset) => Received {
+        Report::MessageRefused(number, at) => Received {
             kind: 4,
-            number: n as u32,
-            empty: 0,
-            offset,
+            number: number as u32,
+            offset: at,
+            ..NOTHING_RECEIVED
         },
-        Report::Dropped(cut) => Received {
+        Report::Dropped(offset) => Received {
             kind: 5,
-            number: 21,
-            empty: 0,
-            offset: cut,
+            number: Refusal::BadCut.number() as u32,
+            offset,
+            ..NOTHING_RECEIVED
         },
     }
 }
@@ -213,13 +202,9 @@ pub fn receive_value(
     ensures { record { answer = result.answer; held = result.held; table = result.table; slots = slots.new; join = join.new } ≡ receive_after held table slots.old join.old body.now }
 {
     let left = receiver::receive(held, table, slots, join, body);
-    let report = left.report;
-    let next = left.held;
-    let after = left.table;
-    let received = received_from(report);
     ReceiveStepped {
-        answer: received,
-        held: next,
-        table: after,
+        answer: received_from(left.report),
+        held: left.held,
+        table: left.table,
     }
 }

@@ -8,11 +8,11 @@
 
 ghost use Rattle.std.specs.Prelude.{◌≡◌};
 ghost use Rattle.collector.specs.Answers.{said, lent_of};
-ghost use Rattle.reader.specs.Read.{read_table};
 ghost use Rattle.receiver.specs.Receive.{told, reported, taken, receive_step};
 
 use collection::Collection;
 use collector::{Answer, Outcome};
+use messages::Source;
 use reader::{Reading, Verdict};
 use refusals::Refusal;
 use table::Table;
@@ -57,9 +57,40 @@ fn report_of(verdict: Verdict) -> Report
 fn finish(held: Collection, reading: Reading) -> Received
     ensures { (told result.report ≡ reported reading.verdict) × (result.held ≡ held) × (result.table ≡ reading.table) }
 {
-    let table = reading.table;
-    let verdict = reading.verdict;
-    let report = report_of(verdict);
+    Received {
+        report: report_of(reading.verdict),
+        held,
+        table: reading.table,
+    }
+}
+
+// The message of an outcome, from where it stands.
+#[tactic(auto, unfolding(messages::specs::Place::own_part, messages::specs::Place::joined_part, collector::specs::Answers::lent_of))]
+fn message_of<'m>(outcome: Outcome, body: &'m [u8], join: &'m [u8]) -> &'m [u8]
+    ensures { result.now ≡ lent_of (said outcome.answer) outcome.held.number body.now join.now }
+{
+    match messages::find_message(outcome.answer, outcome.held.number) {
+        Some(place) if place.source == Source::Body => messages::own_part(outcome, body),
+        _ => messages::joined_part(outcome, join),
+    }
+}
+
+// What is answered after the collector's outcome: a message that is complete is read.
+#[tactic(auto, using(reader::proofs::Shown::shown_only), unfolding(crate::specs::Receive::taken))]
+fn take_up(outcome: Outcome, table: Table, body: &[u8], join: &[u8]) -> Received
+    ensures { (record { report = told result.report; table = result.table } ≡ taken (said outcome.answer) table (lent_of (said outcome.answer) outcome.held.number body.now join.now)) × (result.held ≡ outcome.held) }
+{
+    let held = outcome.held;
+    let report = match outcome.answer {
+        Answer::Refused(refusal) => Report::BodyRefused(refusal),
+        Answer::Repeat => Report::Repeat,
+        Answer::Waiting(empty) => Report::Waiting(empty),
+        Answer::Complete(_) => {
+            let message = message_of(outcome, body, join);
+            return finish(held, reader::read_table(table, message));
+        }
+        Answer::Dropped(cut) => Report::Dropped(cut),
+    };
     Received {
         report,
         held,
@@ -67,51 +98,8 @@ fn finish(held: Collection, reading: Reading) -> Received
     }
 }
 
-// Reads the message of an outcome from where it stands.
-fn read_message(outcome: Outcome, table: Table, body: &[u8], join: &[u8]) -> Reading
-    ensures { result ≡ read_table table (lent_of (said outcome.answer) outcome.held.number body.now join.now) }
-{
-    let number = outcome.held.number;
-    let answer = outcome.answer;
-    let place = messages::find_message(answer, number);
-    if place.source == messages::IN_BODY {
-        return reader::read_table(table, messages::own_part(outcome, body));
-    }
-    reader::read_table(table, messages::joined_part(outcome, join))
-}
-
-// What is answered after the collector's outcome: a message that is complete is read.
-fn take_up(outcome: Outcome, table: Table, body: &[u8], join: &[u8]) -> Received
-    ensures { (record { report = told result.report; table = result.table } ≡ taken (said outcome.answer) table (lent_of (said outcome.answer) outcome.held.number body.now join.now)) × (result.held ≡ outcome.held) }
-{
-    let answer = outcome.answer;
-    let held = outcome.held;
-    match answer {
-        Answer::Refused(refusal) => Received {
-            report: Report::BodyRefused(refusal),
-            held,
-            table,
-        },
-        Answer::Repeat => Received {
-            report: Report::Repeat,
-            held,
-            table,
-        },
-        Answer::Waiting(empty) => Received {
-            report: Report::Waiting(empty),
-            held,
-            table,
-        },
-        Answer::Complete(_) => finish(held, read_message(outcome, table, body, join)),
-        Answer::Dropped(cut) => Received {
-            report: Report::Dropped(cut),
-            held,
-            table,
-        },
-    }
-}
-
 // One body through the collector and, when it completes the message, through the reader.
+#[tactic(auto, unfolding(crate::specs::Receive::receive_step))]
 pub fn receive(
     held: Collection,
     table: Table,
