@@ -6,11 +6,12 @@
 -- Trusts: nothing.
 use mathlib.Core.Path.{◌≡◌, refl, subst⁻¹}
 use lib.ListN.{length, take}
+use Rattle.std.specs.Prelude.{Some}
 use contract.Lifetimes.{Lfts}
 use denote.Triple.Entry.{Args, Res}
 use denote.Triple.Clauses.{AtExit}
 use Rattle.demands.proofs.Contract.{Gives, Says, answer}
-use Rattle.collector.specs.Answers.{said, place_of}
+use Rattle.collector.specs.Answers.{said, complete, place_of}
 use Rattle.collection.specs.Record.{empty_collection}
 use Rattle.collector.specs.Step.{After, collect_step}
 use Rattle.lending.specs.Lent.{LentAt, lent_at}
@@ -21,6 +22,7 @@ use Rattle.collector.proofs.collect.Statement as collect'
 use Rattle.collector.proofs.collect.Met as collect''
 use Rattle.wire.specs.Parts.{Part, part}
 use Rattle.messages.specs.Place.{placed, own_part, joined_part}
+use Rattle.messages.proofs.place_message.Reads as place_message_contract
 use Rattle.messages.proofs.find_message.Reads as find_message_contract
 use Rattle.messages.proofs.own_part.Reads as own_part_contract
 use Rattle.messages.proofs.joined_part.Reads as joined_part_contract
@@ -45,6 +47,9 @@ collect_met = collect''.met
 pub collect_gives : (κs : Lfts 3) → Gives {L = After} (λ x s. record { answer = said x.answer; held = x.held; slots = s.1.0.now; join = s.1.1.0.now }) (collect_contract.Post κs)
     (λ a. collect_step a.0 a.1.0.now a.1.1.0.now a.1.1.1.0.now)
 collect_gives κs a x s h = h
+
+pub place_message_gives : (κs : Lfts 0) → Gives (λ x s. placed (Some x)) (place_message_contract.Post κs) (λ a. place_of (complete a.0) a.1.0)
+place_message_gives κs a x s h = h
 
 pub find_message_gives : (κs : Lfts 0) → Gives (λ x s. placed x) (find_message_contract.Post κs) (λ a. place_of (said a.0) a.1.0)
 find_message_gives κs a x s h = h

@@ -9,7 +9,7 @@
 -- dcdlist, whose contract can say nothing of what is read or written (docs/CONTRACTS.md).
 -- Trusts: nothing.
 use contract.Lifetimes.{Lfts}
-use Rattle.std.specs.Prelude.{Result}
+use Rattle.std.specs.Prelude.{Result, Some}
 use Rattle.refusals.specs.declared.Refusal.{Refusal}
 use Rattle.demands.proofs.Contract.{One, only, answer}
 use Rattle.demands.proofs.Demand2 as demand2
@@ -21,6 +21,7 @@ use Rattle.collection.proofs.empty_collection.Reads as empty_collection_contract
 use Rattle.collector.proofs.collect.Reads as collect_contract
 use Rattle.wire.specs.Parts.{Part, part}
 use Rattle.messages.specs.Place.{placed}
+use Rattle.messages.proofs.place_message.Reads as place_message_contract
 use Rattle.messages.proofs.find_message.Reads as find_message_contract
 use Rattle.messages.proofs.own_part.Reads as own_part_contract
 use Rattle.messages.proofs.joined_part.Reads as joined_part_contract
@@ -55,6 +56,9 @@ empty_collection_one κs = only (demand2.empty_collection_gives κs)
 
 pub collect_one : (κs : Lfts 3) → One {L = After} (λ x s. record { answer = said x.answer; held = x.held; slots = s.1.0.now; join = s.1.1.0.now }) (collect_contract.Post κs)
 collect_one κs = only (demand2.collect_gives κs)
+
+pub place_message_one : (κs : Lfts 0) → One (λ x s. placed (Some x)) (place_message_contract.Post κs)
+place_message_one κs = only (demand2.place_message_gives κs)
 
 pub find_message_one : (κs : Lfts 0) → One (λ x s. placed x) (find_message_contract.Post κs)
 find_message_one κs = only (demand2.find_message_gives κs)

@@ -16,13 +16,6 @@ use collection::Collection;
 use collector::Outcome;
 use messages::{joined_part, own_part};
 
-// The join buffer, shared for good.
-fn share<'j>(join: &'j mut [u8]) -> &'j [u8]
-    ensures { part result.ref_ptr result.now ≡ part join.entry.ref_ptr join.old }
-{
-    &join[..]
-}
-
 // The outcome with the message lent at two lifetimes: as a part of the body where it came in one piece,
 // else as a part of the join buffer; the other is empty, and both are where none is complete. The join buffer
 // is lent back whole beside it, since the message's borrow spends the caller's: while that lives every byte is said, and what
@@ -45,13 +38,12 @@ pub fn collect_lent<'b, 'j, 's>(
     ensures { record { after = record { answer = said result.outcome.answer; held = result.outcome.held; slots = slots.new; own = result.own.now; joined = result.joined.now; join = result.join.now }; own = result.own.ref_ptr; joined = result.joined.ref_ptr; join = result.join.ref_ptr } ≡ lent_at held slots.old (part join.entry.ref_ptr join.old) (part body.entry.ref_ptr body.now) }
 {
     let outcome = collector::collect(held, slots, &mut *join, body);
-    let own = own_part(outcome, body);
-    let shared = share(join);
-    let joined = joined_part(outcome, shared);
+    let join: &'j [u8] = join;
+    let joined = joined_part(outcome, join);
     Lent {
         outcome,
-        own,
+        own: own_part(outcome, body),
         joined,
-        join: shared,
+        join,
     }
 }
