@@ -11,7 +11,7 @@ ghost use Rattle.writing_elements.specs.Encode.{big_endian, element, part, part_
 ghost use Rattle.writing_numbers.specs.Within.{put_within};
 
 use table::Classifier;
-use writing_numbers::{has_room, put_number};
+use writing_numbers::{put_element, put_number};
 
 // A number that is written where its mark says that it is there.
 fn put_part(mark: u8, kind: u8, width: u8, n: u32, out: &mut [u8], at: usize) -> usize
@@ -36,15 +36,12 @@ fn put_parts(classifier: Classifier, out: &mut [u8], at: usize) -> usize
     put_part(classifier.hasend, 10, 2, classifier.end as u32, out, d)
 }
 
-// The row of these: its head is stored when they are written.
+// The row of these.
 fn put_part_row(classifier: Classifier, out: &mut [u8], at: usize) -> usize
     requires { at + 28 ≤ length out.old }
     ensures { Lined 28 out.old at (element 9 (part_row classifier)) out.new result }
 {
-    let next = put_parts(classifier, out, at + 2);
-    out[at] = 9;
-    out[at + 1] = (next - at - 2) as u8;
-    next
+    put_element::<26, _, _>(9, classifier, put_parts, out, at)
 }
 
 // The children of a classifier, by rising type, 35 bytes at most.
@@ -58,14 +55,9 @@ fn put_classifier_row(classifier: Classifier, out: &mut [u8], at: usize) -> usiz
 }
 
 // Writes a classifier, 37 bytes at most.
+#[tactic(auto, unfolding(writing_elements::specs::Encode::classifier_bytes))]
 pub fn put_classifier(classifier: Classifier, out: &mut [u8], at: usize) -> usize
     ensures { record { next = result; out = out.new } ≡ put_within 37 (classifier_bytes classifier) out.old at }
 {
-    if !has_room(out.len(), at, 37) {
-        return at;
-    }
-    let next = put_classifier_row(classifier, out, at + 2);
-    out[at] = 23;
-    out[at + 1] = (next - at - 2) as u8;
-    next
+    put_element::<35, _, _>(23, classifier, put_classifier_row, out, at)
 }

@@ -39,18 +39,20 @@ fn put_timers(timers: TimerValues, out: &mut [u8], at: usize) -> usize
     put_timer(5, 1800, timers.tdsg4, out, c)
 }
 
-// The channels, 6 bytes each.
+// A channel, 6 bytes.
+fn put_channel(hertz: u32, out: &mut [u8], at: usize) -> usize
+    requires { at + 6 ≤ length out.old }
+    ensures { Lined 6 out.old at (channel_bytes hertz) out.new result }
+{
+    put_number(1, 4, hertz as u64, out, at)
+}
+
+// The channels, 32 at most.
 fn put_channels(channels: &[u32], out: &mut [u8], at: usize) -> usize
     requires { (length channels.now ≤ 32) × (at + 192 ≤ length out.old) }
     ensures { Lined 192 out.old at (each channel_bytes channels.now) out.new result }
 {
-    let mut next = at;
-    let mut i = 0;
-    while i < channels.len() {
-        next = put_number(1, 4, channels[i] as u64, out, next);
-        i += 1;
-    }
-    next
+    writing_numbers::put_each::<6, _, _>(channels, put_channel, out, at)
 }
 
 // The children of the configuration, by rising type, 208 bytes at most.
@@ -76,6 +78,7 @@ pub fn put_configuration(table: Table, out: &mut [u8], at: usize) -> usize
     if next == at + 2 {
         return at;
     }
+    // Kept: (d) not `put_element`: that stores a head ahead of a value of any length, and a configuration without a child has none.
     out[at] = 51;
     out[at + 1] = (next - at - 2) as u8;
     next

@@ -3,19 +3,21 @@
 --   room_past, room-here     what the test of the room says       room_least    the test, made without a sum
 --   within_past      no room: nothing is written          within_room    what was written, where there is room
 --   within→lined     what `put_within` says of bytes that are short enough, where there is room
+--   lined_listed     the elements of a list are no longer than its limit allows
 --   number→lined     what `put_number` says, where there is room     byte→lined    of a number of one byte
 -- Trusts: nothing.
-use Prim.Native.Nat.{ℕ, ◌+◌, ◌-◌, ◌≤◌, ◌<◌}
+use Prim.Native.Nat.{ℕ, ◌+◌, ◌-◌, ◌*◌, ◌≤◌, ◌<◌}
 use mathlib.Core.Path.{◌≡◌, refl, sym, ap, subst, ◌∙◌}
 use mathlib.Core.Bool.{Bool, true, false, not}
 use mathlib.Core.List.{List, [], ◌∷◌}
 use native.Mathlib.Omega.{arith}
-use native.Mathlib.Nat.{mod-eq_of_lt}
+use native.Mathlib.Nat.{mod-eq_of_lt, mul-le-mul_left}
 use borrow.Author.Tests.{leb-true, leb-false, le-leb, lt-leb, not-true, not-false}
 use lib.ListN.{length}
 use lib.Dec.{leb}
 use Rattle.wire.specs.Bytes.{pasted}
 use Rattle.texts.specs.Put.{Put, put}
+use Rattle.texts.specs.Text.{each}
 use Rattle.texts.specs.Writing.{Lined}
 use Rattle.texts.proofs.Puts.{put→wrote}
 use Rattle.writing_elements.specs.Encode.{big_endian, element}
@@ -66,3 +68,9 @@ pub byte→lined : (kind n : ℕ) {out new : List ℕ} {at next : ℕ} → at + 
 unfolding big_endian
 byte→lined kind n {out} {new} {at} {next} room h e =
     subst (λ (k : ℕ). Lined 3 out at (kind ∷ 1 ∷ k ∷ []) new next) (mod-eq_of_lt h) (number→lined kind 1 n room e)
+
+pub lined_listed : {A : Type 0} (most limit : ℕ) (line : A → List ℕ) {xs l : List A} {out new : List ℕ} {at next : ℕ} → xs ≡ l → length l ≤ limit
+    → Lined (most * length xs) out at (each line xs) new next → Lined (most * limit) out at (each line l) new next
+lined_listed {A} most limit line {xs} {l} {out} {new} {at} {next} same few w =
+    let all : Lined (most * length l) out at (each line l) new next = subst (λ (x : List A). Lined (most * length x) out at (each line x) new next) same w in
+    record { wrote = all.wrote; short = record { bytes = omega (arith, all.short.bytes, mul-le-mul_left {m = length l} {n = limit} most few) } }

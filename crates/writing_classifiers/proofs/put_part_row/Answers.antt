@@ -1,8 +1,9 @@
--- `writing_classifiers::put_part_row` writes a row: its children, then the head ahead of them (`lined-row`).
+-- `writing_classifiers::put_part_row` writes a row, which is no longer than its parts.
 -- Trusts: nothing.
-use Rattle.std.proofs.Common.{refl, arith}
-use Rattle.writing_numbers.proofs.Heads.{lined-row}
+use Rattle.std.proofs.Common.{arith}
+use Rattle.writing_elements.proofs.Sizes.{part_row-most}
+use Rattle.writing_numbers.proofs.Within.{within→lined}
 use Rattle.writing_classifiers.proofs.put_part_row.Goals as goal
 
 pub returns : goal.returns
-returns c = lined-row 9 26 _ _ _ (omega (arith, c.requires)) c.put_parts-next.ensures refl
+returns c = within→lined 28 _ _ _ c.requires (omega (arith, part_row-most c.args.classifier)) c.put_element.ensures

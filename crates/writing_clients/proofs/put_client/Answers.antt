@@ -1,16 +1,17 @@
 -- `writing_clients::put_client` writes a client ID: each return is one of its forms.
 -- Trusts: nothing.
+use Rattle.std.proofs.Common.{arith}
 use Rattle.writing_clients.proofs.Clients.{client-all, client-mac, client-other}
 use Rattle.writing_clients.proofs.put_client.Goals as goal
 
 -- a broadcast of length 0
-pub returns-then-client-eq0 : goal.returns-then-client-eq0
-returns-then-client-eq0 c = client-all _ c.requires c.if-client-eq0.true c.put_number.ensures
+pub returns-in-0 : goal.returns-in-0
+returns-in-0 c = client-all _ c.requires c.in-0.is c.put_number.ensures
 
 -- a MAC
-pub returns-then-client-eq2 : goal.returns-then-client-eq2
-returns-then-client-eq2 c = client-mac _ c.requires c.if-client-eq2.true c.put_number-then-client-eq2.ensures
+pub returns-in-2 : goal.returns-in-2
+returns-in-2 c = client-mac _ c.requires c.in-2.is c.put_number-in-2.ensures
 
 -- any other kind
-pub returns : goal.returns
-returns c = client-other _ c.requires c.if-client-eq0.false c.if-client-eq2.false c.put_number-2.ensures
+pub returns-in_default : goal.returns-in_default
+returns-in_default c = client-other _ c.requires (λ z. omega arith) (λ z. omega arith) c.put_number-in_default.ensures
