@@ -10,6 +10,7 @@ use mathlib.Core.Bool.{Bool, true, false, cond, ◌&&◌, false≢true}
 use mathlib.Core.Logic.{◌⊎◌, inl, inr}
 use native.Mathlib.Omega.{arith}
 use lib.Dec.{eqb}
+use Rattle.std.proofs.lemmas.Bool.{cond_both}
 use Rattle.modem_record.specs.declared.Modem.{Modem}
 use Rattle.modem_rows.specs.declared.Event.{Event}
 use Rattle.modem_rows.specs.declared.Event.TheVariants.{Start, Locked, ScanEmpty, TableAccepted, Packet, Tick, Enable, UpstreamUp, UpstreamLost, Disable, Hunt, DownstreamLost, Unnamed}
@@ -19,7 +20,7 @@ use Rattle.modem_rows.specs.Events.{start_row, heard_row, enable_row, disable_ro
 use Rattle.modem_step.specs.Step.{Stepped, is_back, is_start, aged, next_modem}
 use Rattle.modem_step.proofs.Laws.{stepped_modem-start, stepped_modem_ignored, stepped_modem_back, stepped_modem-taken}
 use Rattle.modem.proofs.LawsKept.{Kept, counts_idle→Kept, Kept→well_kept, moved_kept, aged_kept}
-use Rattle.modem.proofs.LawsRows.{Fits, either, row_at, locked_row_kept, empty_row_kept, table_row_kept, heard_row_kept, retry_row_kept, up_row_kept}
+use Rattle.modem.proofs.LawsRows.{Fits, row_at, locked_row_kept, empty_row_kept, table_row_kept, heard_row_kept, retry_row_kept, up_row_kept}
 use Rattle.modem.proofs.LawsRows.{sending_facts, lost_row_kept, rest_row_kept, hunt_row_kept, wake_row_kept}
 
 abbrev pub FitsEvent : Event → Type 0
@@ -101,7 +102,7 @@ enable_event_kept m k =
 disable_event_kept : (m : Modem) → Kept m → Fits m → Kept (disable_event m)
 unfolding disable_event disable_row
 disable_event_kept m k f =
-    either Kept (is_sending m) _ (stopped m)
+    cond_both (is_sending m) _ (stopped m) Kept
     (λ e. record {
       state = omega arith;
       permission = omega arith;

@@ -1,7 +1,6 @@
 -- Laws of the rows (specs/Events.antt of modem_rows): each row keeps a well-kept record well kept.
 --
 --   Fits m         timer values are 16 bits wide, as the record's type says
---   either         a claim of a test's two arms
 --   row, row_at    a row where it is taken, and the record as it was where it is not
 --   ..Row-kept     one for each row, in the table's order but for the two that load Tdsg2
 -- Trusts: nothing.
@@ -15,7 +14,7 @@ use Rattle.modem_record.specs.declared.Modem.{Modem}
 use Rattle.modem_record.specs.States.{is_at, is_forwarding, is_sending, is_four, is_permitted, is_at_zero, off, none, known, loaded, receive_of, retry_of, ucid_of}
 use Rattle.modem_record.specs.Record.{receive_mark, is_over, moved}
 use Rattle.modem_rows.specs.Events.{locked_row, empty_row, table_row, heard_row, retry_row, up_row, lost_row, rest_row, hunt_row, wake_row}
-use Rattle.modem_step.proofs.Laws.{and_left, and_right}
+use Rattle.std.proofs.lemmas.Bool.{and_parts, or_cases, cond_both}
 use Rattle.modem.proofs.LawsKept.{Kept, moved_kept, loaded-fits}
 
 pub record Fits (m : Modem) : Type 0 where
@@ -24,38 +23,29 @@ pub record Fits (m : Modem) : Type 0 where
   pub three : m.tdsg3 ≤ 65535
   pub four : m.tdsg4 ≤ 65535
 
--- either arm of a test
-pub either : (P : Modem → Type 0) (b : Bool) (x y : Modem) → (b ≡ true → P x) → (b ≡ false → P y) → P (cond b x y)
-either P true x y f g = f refl
-either P false x y f g = g refl
-
 -- the numbers of the three forwarding states, and of the two that transmit
-or_case : (a b : Bool) → a || b ≡ true → (a ≡ true) ⊎ (b ≡ true)
-or_case true b h = inl refl
-or_case false b h = inr h
-
 sending_at : (m : Modem) → is_sending m ≡ true → (m.state ≡ 4) ⊎ (m.state ≡ 5)
-sending_at m h = go (or_case (is_at 4 m) (is_at 5 m) h)
+sending_at m h = go (or_cases (is_at 4 m) (is_at 5 m) h)
   where
     go : (is_at 4 m ≡ true) ⊎ (is_at 5 m ≡ true) → (m.state ≡ 4) ⊎ (m.state ≡ 5)
     go (inl e) = inl (eqb-true m.state 4 e)
     go (inr e) = inr (eqb-true m.state 5 e)
 
 forwarding_from : (m : Modem) → is_forwarding m ≡ true → 3 ≤ m.state
-forwarding_from m h = go (or_case (is_at 3 m || is_at 4 m) (is_at 5 m) h)
+forwarding_from m h = go (or_cases (is_at 3 m || is_at 4 m) (is_at 5 m) h)
   where
     low : (is_at 3 m ≡ true) ⊎ (is_at 4 m ≡ true) → 3 ≤ m.state
     low (inl e) = omega (arith, eqb-true m.state 3 e)
     low (inr e) = omega (arith, eqb-true m.state 4 e)
 
     go : (is_at 3 m || is_at 4 m ≡ true) ⊎ (is_at 5 m ≡ true) → 3 ≤ m.state
-    go (inl e) = low (or_case (is_at 3 m) (is_at 4 m) e)
+    go (inl e) = low (or_cases (is_at 3 m) (is_at 4 m) e)
     go (inr e) = omega (arith, eqb-true m.state 5 e)
 
 module _ (m : Modem) (other : Modem) (ko : Kept other) where
   -- a row that is taken where b holds, and one that is taken in the state n
   row : (b : Bool) (x : Modem) → (b ≡ true → Kept x) → Kept (cond b x other)
-  row b x taken = either Kept b x other taken (λ e. ko)
+  row b x taken = cond_both b x other Kept taken (λ e. ko)
 
   pub row_at : (n : ℕ) (x : Modem) → (m.state ≡ n → Kept x) → Kept (cond (is_at n m) x other)
   row_at n x taken = row (is_at n m) x (λ e. taken (eqb-true m.state n e))
@@ -76,9 +66,9 @@ module _ (m : Modem) (k : Kept m) (f : Fits m) (other : Modem) (ko : Kept other)
   pub retry_row_kept : Kept (retry_row m other)
   unfolding retry_row
   retry_row_kept = row m other ko (is_at 3 m && is_at_zero (retry_of m) && is_permitted m) _ (λ e.
-      let over = is_at 3 m && is_at_zero (retry_of m) in
-      let z = eqb-true m.state 3 (and_left (is_at 3 m) (is_at_zero (retry_of m)) (and_left over (is_permitted m) e)) in
-      let p = eqb-true m.permission 1 (and_right over (is_permitted m) e) in
+      let q = and_parts (is_at 3 m && is_at_zero (retry_of m)) (is_permitted m) e in
+      let z = eqb-true m.state 3 (and_parts (is_at 3 m) (is_at_zero (retry_of m)) q.0).0 in
+      let p = eqb-true m.permission 1 q.1 in
       moved_kept m k 4 (ucid_of m) (receive_of m) off
       (omega arith) (rw z at k).receive (omega arith) (rw z at k).ucid (omega arith) k.receive-fits refl)
 
@@ -116,7 +106,7 @@ module _ (m : Modem) (k : Kept m) (f : Fits m) (other : Modem) (ko : Kept other)
   pub wake_row_kept : Kept (wake_row m other)
   unfolding wake_row
   wake_row_kept = row m other ko (is_at 6 m && is_at_zero (receive_of m)) _ (λ e.
-      let z = eqb-true m.state 6 (and_left (is_at 6 m) (is_at_zero (receive_of m)) e) in
+      let z = eqb-true m.state 6 (and_parts (is_at 6 m) (is_at_zero (receive_of m)) e).0 in
       moved_kept m k 1 (ucid_of m) off (retry_of m) (omega arith) refl (rw z at k).retry (rw z at k).ucid (omega arith) refl k.retry_fits)
 
 module _ (m : Modem) (k : Kept m) (two : m.tdsg2 ≤ 65535) (other : Modem) (ko : Kept other) where

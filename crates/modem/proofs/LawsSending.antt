@@ -12,6 +12,7 @@ use mathlib.Core.Path.{◌≡◌, refl, sym, ◌∙◌, ap, subst}
 use mathlib.Core.Bool.{Bool, true, false, cond, not, ◌&&◌}
 use native.Mathlib.Omega.{arith}
 use borrow.Author.Tests.{not-true}
+use Rattle.std.proofs.lemmas.Bool.{and_parts}
 use Rattle.modem_record.specs.declared.Modem.{Modem}
 use Rattle.modem_rows.specs.declared.Event.{Event}
 use Rattle.modem_rows.specs.declared.Event.TheVariants.{Disable}
@@ -20,7 +21,7 @@ use Rattle.modem_record.specs.Record.{counts_idle}
 use Rattle.modem_asked.specs.Asked.{transmits, forwards}
 use Rattle.modem_rows.specs.Events.{disable_row, disable_event, event_on}
 use Rattle.modem_step.specs.Step.{Answer, Done, ClockBack, Stepped, is_back, is_start, aged, answer_number, stepped_modem, next_modem}
-use Rattle.modem_step.proofs.Laws.{and_left, and_right, stepped_modem_ignored, stepped_modem_back, stepped_modem-taken}
+use Rattle.modem_step.proofs.Laws.{stepped_modem_ignored, stepped_modem_back, stepped_modem-taken}
 use Rattle.modem.proofs.LawsKept.{counts_idle→Kept}
 use Rattle.modem.proofs.LawsFrame.{cond-field, cond_same, sets_permission, next_modem_permission}
 
@@ -52,8 +53,8 @@ module _ (m : Modem) where
   pub transmits→permitted : transmits m ≡ true → m.permission ≡ 1
   unfolding transmits
   transmits→permitted h =
-      let k = counts_idle→Kept m (not-true (counts_idle m) (and_left (not (counts_idle m)) (is_sending m) h)) in
-      let p : 1 ≤ m.permission = subst (λ (b : Bool). cond b 1 0 ≤ m.permission) (and_right (not (counts_idle m)) (is_sending m) h) k.sends in
+      let k = counts_idle→Kept m (not-true (counts_idle m) (and_parts (not (counts_idle m)) (is_sending m) h).0) in
+      let p : 1 ≤ m.permission = subst (λ (b : Bool). cond b 1 0 ≤ m.permission) (and_parts (not (counts_idle m)) (is_sending m) h).1 k.sends in
       omega (arith, k.permission)
 
 pub next_modem-transmits : (m : Modem) (now : ℕ) (ev : Event) → transmits (next_modem m now ev) ≡ true → (next_modem m now ev).permission ≡ 1

@@ -12,54 +12,41 @@ use native.Mathlib.Omega.{arith}
 use lib.Dec.{ltb, eqb}
 use lib.Bits.{bit_or, or_add_and, and_le_l, and_le_r, or_lt}
 use borrow.Author.Tests.{ltb-true, ltb-false, eqb-true, eqb-false, lt-ltb, le-ltb, ne_eqb}
+use Rattle.std.proofs.Math.Bool.{or-true}
+use Rattle.std.proofs.lemmas.Bool.{agree_below, agree_below_at}
 use Rattle.modem_record.specs.declared.Modem.{Modem}
 use Rattle.modem_record.specs.States.{idle, is_at, receive_of, retry_of}
 use Rattle.modem_record.specs.Record.{receive_mark, retry_mark, ucid_mark, least_permission, is_over, is_spoilt, is_broken, counts_idle}
 use Rattle.modem_record.specs.Idle.{is_unsuited, is_late, is_held_over}
-
-pub or_true : (a : Bool) → a || true ≡ true
-or_true true = refl
-or_true false = refl
 
 two : (P : ℕ → Type 0) → P 0 → P 1 → (n : ℕ) → n ≤ 1 → P n
 two P a b zero h = a
 two P a b (suc zero) h = b
 two P a b (suc (suc n)) h = absurd (omega arith)
 
-eight : (P : ℕ → Type 0) → P 0 → P 1 → P 2 → P 3 → P 4 → P 5 → P 6 → P 7 → (n : ℕ) → n ≤ 7 → P n
-eight P a b c d e f g i zero h = a
-eight P a b c d e f g i (suc zero) h = b
-eight P a b c d e f g i (suc (suc zero)) h = c
-eight P a b c d e f g i (suc (suc (suc zero))) h = d
-eight P a b c d e f g i (suc (suc (suc (suc zero)))) h = e
-eight P a b c d e f g i (suc (suc (suc (suc (suc zero))))) h = f
-eight P a b c d e f g i (suc (suc (suc (suc (suc (suc zero)))))) h = g
-eight P a b c d e f g i (suc (suc (suc (suc (suc (suc (suc zero))))))) h = i
-eight P a b c d e f g i (suc (suc (suc (suc (suc (suc (suc (suc n)))))))) h = absurd (omega arith)
-
 abbrev Suited : ℕ → ℕ → ℕ → ℕ → Type 0
 Suited s r u p = eqb ((13651674617873152 / 2 ^ (s * 8 + r * 4 + u * 2 + p)) % 2) 0 ≡ is_unsuited s r u p
 
--- the eight records of a state
-marks : (s : ℕ) → Suited s 0 0 0 → Suited s 0 0 1 → Suited s 0 1 0 → Suited s 0 1 1 → Suited s 1 0 0 → Suited s 1 0 1 → Suited s 1 1 0 → Suited s 1 1 1
-    → (r u p : ℕ) → r ≤ 1 → u ≤ 1 → p ≤ 1 → Suited s r u p
-marks s a b c d e f g i r u p hr hu hp =
-    two (λ r. Suited s r u p)
-    (two (λ u. Suited s 0 u p) (two (λ p. Suited s 0 0 p) a b p hp) (two (λ p. Suited s 0 1 p) c d p hp) u hu)
-    (two (λ u. Suited s 1 u p) (two (λ p. Suited s 1 0 p) e f p hp) (two (λ p. Suited s 1 1 p) g i p hp) u hu) r hr
+-- the bit at a place, and whether the four numbers that make it are unsuited
+abbrev bit_is_0 : ℕ → Bool
+bit_is_0 n = eqb ((13651674617873152 / 2 ^ n) % 2) 0
+
+abbrev unsuited_at : ℕ → Bool
+unsuited_at n = is_unsuited (n / 8) (n / 4 % 2) (n / 2 % 2) (n % 2)
+
+every_place : agree_below bit_is_0 unsuited_at 64 ≡ true
+unfolding is_unsuited
+every_place = refl
 
 pub suited : (s r u p : ℕ) → s ≤ 7 → r ≤ 1 → u ≤ 1 → p ≤ 1 → Suited s r u p
-unfolding is_unsuited
 suited s r u p hs hr hu hp =
-    eight (λ s. Suited s r u p)
-    (marks 0 refl refl refl refl refl refl refl refl r u p hr hu hp)
-    (marks 1 refl refl refl refl refl refl refl refl r u p hr hu hp)
-    (marks 2 refl refl refl refl refl refl refl refl r u p hr hu hp)
-    (marks 3 refl refl refl refl refl refl refl refl r u p hr hu hp)
-    (marks 4 refl refl refl refl refl refl refl refl r u p hr hu hp)
-    (marks 5 refl refl refl refl refl refl refl refl r u p hr hu hp)
-    (marks 6 refl refl refl refl refl refl refl refl r u p hr hu hp)
-    (marks 7 refl refl refl refl refl refl refl refl r u p hr hu hp) s hs
+    let e : bit_is_0 (s * 8 + r * 4 + u * 2 + p) ≡ unsuited_at (s * 8 + r * 4 + u * 2 + p) =
+        agree_below_at bit_is_0 unsuited_at 64 (s * 8 + r * 4 + u * 2 + p) every_place (omega arith) in
+    let a : (s * 8 + r * 4 + u * 2 + p) / 8 ≡ s = omega arith in
+    let b : (s * 8 + r * 4 + u * 2 + p) / 4 % 2 ≡ r = omega arith in
+    let c : (s * 8 + r * 4 + u * 2 + p) / 2 % 2 ≡ u = omega arith in
+    let d : (s * 8 + r * 4 + u * 2 + p) % 2 ≡ p = omega arith in
+    rw (a, b, c, d) at e
 
 -- a mark over 1 is not due
 over : (b : Bool) (x y n : ℕ) → x ≤ 1 → y ≤ 1 → 1 < n → eqb n (cond b x y) ≡ false
@@ -69,19 +56,19 @@ over false x y n hx hy h = ne_eqb n y (omega arith)
 module _ (s r u p : ℕ) where
   pub is_unsuited_state : 7 < s → is_unsuited s r u p ≡ true
   unfolding is_unsuited
-  is_unsuited_state h = simp (lt-ltb 6 s (omega arith), or_true)
+  is_unsuited_state h = simp (lt-ltb 6 s (omega arith), or-true)
 
   pub is_unsuited-receive : 1 < r → is_unsuited s r u p ≡ true
   unfolding is_unsuited
-  is_unsuited-receive h = simp (over (eqb s 0 || eqb s 1) 0 1 r (omega arith) (omega arith) h, or_true)
+  is_unsuited-receive h = simp (over (eqb s 0 || eqb s 1) 0 1 r (omega arith) (omega arith) h, or-true)
 
   pub is_unsuited-ucid : 1 < u → is_unsuited s r u p ≡ true
   unfolding is_unsuited
-  is_unsuited-ucid h = simp (over (eqb s 5) 1 0 u (omega arith) (omega arith) h, or_true)
+  is_unsuited-ucid h = simp (over (eqb s 5) 1 0 u (omega arith) (omega arith) h, or-true)
 
   pub is_unsuited_permission : 1 < p → is_unsuited s r u p ≡ true
   unfolding is_unsuited
-  is_unsuited_permission h = simp (lt-ltb 1 p h, or_true)
+  is_unsuited_permission h = simp (lt-ltb 1 p h, or-true)
 
 -- no number is more than the three joined bit by bit
 pub or_left : (a b : ℕ) → a ≤ bit_or a b
@@ -120,8 +107,8 @@ is_held_over-mark on left h = two (λ on. ltb 65535000 (left * on) ≡ (not (eqb
     (let e : left * 1 ≡ left = omega arith in rw e) on h
 
 late : (a b o : Bool) (n : ℕ) → 0 < n → ((not (eqb n 1) || not a) || not b) || o ≡ ltb (cond (a && b) 1 0) n || (not (eqb n 0) && o)
-late false b o n h = simp (or_true, lt-ltb 0 n h)
-late true false o n h = simp (or_true, lt-ltb 0 n h)
+late false b o n h = simp (or-true, lt-ltb 0 n h)
+late true false o n h = simp (or-true, lt-ltb 0 n h)
 late true true o n h = go (eqb n 1) refl
   where
     go : (z : Bool) → eqb n 1 ≡ z → ((not (eqb n 1) || false) || false) || o ≡ ltb 1 n || (not (eqb n 0) && o)
@@ -148,8 +135,8 @@ unsuited false false false false false false true z h = refl
 unsuited false false false false false false false z h = absurd (true≢false (sym h))
 
 overdue : (i a b c d e f t v x y : Bool) → d || y ≡ true → i || (a || b || c || d || e || f || (t || v || x || y)) ≡ true
-overdue i a b c true e f t v x y h = simp or_true
-overdue i a b c false e f t v x true h = simp or_true
+overdue i a b c true e f t v x y h = simp or-true
+overdue i a b c false e f t v x true h = simp or-true
 overdue i a b c false e f t v x false h = absurd (true≢false (sym h))
 
 sound : (i a b c d e f t v x y : Bool) → t ≡ false → v ≡ false → i || a || b || c || e || f ≡ false → d || y ≡ false → i || (a || b || c || d || e || f || (t || v || x || y)) ≡ x

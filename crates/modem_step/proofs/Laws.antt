@@ -2,7 +2,6 @@
 --
 --   stepped_modem-start, -acts, -ignored, -back, -taken   one for each answer, in the order of the tests
 --   is_start-numbers    which numbers name a Start
---   off_left, off_right   a Start, or a test that fails: no other event meets the test
 --   numbered_step_ignored, _back, -taken   one for each way out of the step
 --   answer_of_back      the answer of an answer's number
 -- Trusts: nothing.
@@ -15,15 +14,6 @@ use Rattle.modem_rows.specs.Events.{start_row, event_on}
 use Rattle.modem_step.specs.Step.{Answer, Done, ClockBack, is_back, aged, is_start, answer_number, answer_of, stepped_modem}
 use Rattle.modem_rows.specs.Numbers.{start_of, event_of}
 use Rattle.modem_step.specs.Numbers.{Numbered, numbered_step}
-
-pub and_left : (a b : Bool) → a && b ≡ true → a ≡ true
-and_left true b h = refl
-and_left false b h = h
-
-pub and_right : (a b : Bool) → a && b ≡ true → b ≡ true
-and_right true b h = h
-and_right false true h = refl
-and_right false false h = h
 
 module _ (m : Modem) (now : ℕ) where
   pub stepped_modem-start : (p : Bool) → stepped_modem m now (Start p) ≡ record { answer = Done; modem = start_row p now }
@@ -67,13 +57,6 @@ is_start-numbers kind a b c d = simp (is_start-cond, cond_false) (cond_and (eqb 
 pub start_of_mark : (p : Bool) → start_of (cond p 1 0) ≡ Start p
 start_of_mark true = refl
 start_of_mark false = refl
-
-pub off_left : (s i : Bool) → s ≡ true → not s && i ≡ false
-off_left s i e = rw e
-
-pub off_right : (s i : Bool) → i ≡ false → not s && i ≡ false
-off_right true i e = refl
-off_right false i e = e
 
 module _ (m : Modem) (now kind a b c d : ℕ) where
   abbrev Step : Numbered → Type 0

@@ -4,12 +4,12 @@
 --   told_only, answered_only   so are two answers of `step_numbered` for one record, and two of `on_event`
 --   as_answer, as_result   an answer, and a step, as Rust's own results;  told_step, answered_step   their numbers are the step's
 -- Trusts: nothing.
-use Rattle.std.proofs.Common.{◌≡◌, ℕ, Bool, true, false, cond, not, ◌&&◌, refl, sym, ap, ◌∙◌, arith}
+use Rattle.std.proofs.Common.{◌≡◌, ℕ, Bool, true, false, cond, not, ◌&&◌, refl, sym, ap, ◌∙◌}
 use Rattle.std.specs.Prelude.{Result, Ok, Err}
 use Rattle.refusals.specs.Refusals.{number_of}
 use Rattle.refusals.specs.declared.Refusal.{Refusal}
 use Rattle.refusals.specs.declared.Refusal.TheVariants as refusal
-use Rattle.refusals.proofs.Only.{number_of-only}
+use Rattle.refusals.proofs.Only.{number_of-only, number_of-some}
 use Rattle.modem_record.specs.declared.Modem.{Modem}
 use Rattle.modem_record.specs.Record.{counts_idle}
 use Rattle.modem_rows.specs.declared.Event.{Event}
@@ -28,42 +28,16 @@ step_of_back s = rw (answer_of_back s.answer)
 pub as_numbers_only : (r s : Stepped) → as_numbers r ≡ as_numbers s → r ≡ s
 as_numbers_only r s e = sym (step_of_back r) ∙ ap step_of e ∙ step_of_back s
 
--- no refusal has the number 0
-some : (r : Refusal) → number_of r ≡ 0 → ⊥
-unfolding number_of
-some refusal.ShortBuffer h = absurd (omega arith)
-some refusal.ShortBody h = absurd (omega arith)
-some refusal.TooLong h = absurd (omega arith)
-some refusal.PieceCount h = absurd (omega arith)
-some refusal.PieceNumber h = absurd (omega arith)
-some refusal.CutHead h = absurd (omega arith)
-some refusal.Length255 h = absurd (omega arith)
-some refusal.PastEnd h = absurd (omega arith)
-some refusal.SecondCopy h = absurd (omega arith)
-some refusal.WrongLength h = absurd (omega arith)
-some refusal.BadValue h = absurd (omega arith)
-some refusal.Full h = absurd (omega arith)
-some refusal.MissingElement h = absurd (omega arith)
-some refusal.NumberTaken h = absurd (omega arith)
-some refusal.Unanswered h = absurd (omega arith)
-some refusal.FrameLength h = absurd (omega arith)
-some refusal.NoRule h = absurd (omega arith)
-some refusal.ClockBack h = absurd (omega arith)
-some refusal.CannotProduce h = absurd (omega arith)
-some refusal.ShortOutput h = absurd (omega arith)
-some refusal.BadCut h = absurd (omega arith)
-some refusal.ShortListing h = absurd (omega arith)
-
 pub told_only : (m : Modem) (r s : Result Modem Refusal) → told m r ≡ told m s → r ≡ s
 told_only m (Ok a) (Ok b) e = ap (λ (n : Numbered). Ok n.modem) e
-told_only m (Ok a) (Err s) e = absurd (some s (sym (ap (λ (n : Numbered). n.answer) e)))
-told_only m (Err r) (Ok b) e = absurd (some r (ap (λ (n : Numbered). n.answer) e))
+told_only m (Ok a) (Err s) e = absurd (number_of-some s (sym (ap (λ (n : Numbered). n.answer) e)))
+told_only m (Err r) (Ok b) e = absurd (number_of-some r (ap (λ (n : Numbered). n.answer) e))
 told_only m (Err r) (Err s) e = ap Err (number_of-only r s (ap (λ (n : Numbered). n.answer) e))
 
 pub answered_only : (r s : Result Unit Refusal) → answered r ≡ answered s → r ≡ s
 answered_only (Ok a) (Ok b) e = refl
-answered_only (Ok a) (Err s) e = absurd (some s (sym e))
-answered_only (Err r) (Ok b) e = absurd (some r e)
+answered_only (Ok a) (Err s) e = absurd (number_of-some s (sym e))
+answered_only (Err r) (Ok b) e = absurd (number_of-some r e)
 answered_only (Err r) (Err s) e = ap Err (number_of-only r s e)
 
 abbrev pub as_answer : Answer → Result Unit Refusal

@@ -2,18 +2,19 @@
 -- Trusts: nothing.
 use borrow.Author.Tests.{eq-eqb, ne_eqb}
 use mathlib.Core.Path.{sym, ◌∙◌}
-use Rattle.modem_record.proofs.LawsIdle.{or_true, is_unsuited→mark, counts_idle_unsuited, counts_idle_late, counts_idle_rest}
+use Rattle.std.proofs.Math.Bool.{or-true}
+use Rattle.modem_record.proofs.LawsIdle.{is_unsuited→mark, counts_idle_unsuited, counts_idle_late, counts_idle_rest}
 use Rattle.modem_record.specs.Record.{counts_idle, is_broken}
 use Rattle.modem_record.proofs.counts_idle.Goals as goal
 
 -- a Tdsg1 or a Tdsg2 of 0
 pub returns-then-m-eq0 : goal.returns-then-m-eq0
 unfolding counts_idle is_broken
-returns-then-m-eq0 c = simp (eq-eqb _ _ c.if-m-eq0.true, or_true)
+returns-then-m-eq0 c = simp (eq-eqb _ _ c.if-m-eq0.true, or-true)
 
 pub returns-then-m-eq0-2 : goal.returns-then-m-eq0-2
 unfolding counts_idle is_broken
-returns-then-m-eq0-2 c = simp (eq-eqb _ _ c.if-m-eq0-2.true, or_true)
+returns-then-m-eq0-2 c = simp (eq-eqb _ _ c.if-m-eq0-2.true, or-true)
 
 pub returns-then-is_late : goal.returns-then-is_late
 returns-then-is_late c = sym (counts_idle_late _ (sym c.is_late.ensures ∙ c.if-is_late.true))
