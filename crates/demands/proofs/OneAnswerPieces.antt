@@ -25,8 +25,9 @@ use Rattle.packets.proofs.read_port.Reads as read_port_contract
 use Rattle.matching.proofs.entry_of.Reads as entry_of_contract
 use Rattle.matching.proofs.fits_packet.Reads as fits_packet_contract
 use Rattle.bodies.proofs.list_body.Reads as list_body_contract
-use Rattle.texts.proofs.put_field.Reads as put_field_contract
-use Rattle.texts.proofs.put_address.Reads as put_address_contract
+use Rattle.texts.proofs.Writer.put_byte.Reads as put_byte_contract
+use Rattle.texts.proofs.Writer.put_field.Reads as put_field_contract
+use Rattle.texts.proofs.Writer.put_address.Reads as put_address_contract
 use Rattle.notices.proofs.list_refusal.Reads as list_refusal_contract
 use Rattle.notices.proofs.list_waiting.Reads as list_waiting_contract
 use Rattle.listing.proofs.list_table.Reads as list_table_contract
@@ -75,10 +76,13 @@ fits_packet_one κs = only (pieces.fits_packet_gives κs)
 
 -- ---- texts
 
-pub put_field_one : (κs : Lfts 2) → One {L = Put} (λ x s. record { next = x; out = s.1.1.0.now }) (put_field_contract.Post κs)
+pub put_byte_one : (κs : Lfts 2) → One {L = Put} (λ x s. record { next = s.0.now.at; out = s.0.now.out.now }) (put_byte_contract.Post κs)
+put_byte_one κs = only (pieces.put_byte_gives κs)
+
+pub put_field_one : (κs : Lfts 3) → One {L = Put} (λ x s. record { next = s.0.now.at; out = s.0.now.out.now }) (put_field_contract.Post κs)
 put_field_one κs = only (pieces.put_field_gives κs)
 
-pub put_address_one : (κs : Lfts 2) → One {L = Put} (λ x s. record { next = x; out = s.1.1.0.now }) (put_address_contract.Post κs)
+pub put_address_one : (κs : Lfts 3) → One {L = Put} (λ x s. record { next = s.0.now.at; out = s.0.now.out.now }) (put_address_contract.Post κs)
 put_address_one κs = only (pieces.put_address_gives κs)
 
 -- ---- notices

@@ -1,6 +1,7 @@
 -- PartsPieces: what the public functions of the other lower crates give (cuts, collection, held, joining, relation, body_tests, packets, matching,
 -- texts, notices, listing, bodies): each its definition, for every input, as Parts says it of those that reading stands on.
 -- Trusts: nothing.
+use mathlib.Core.List.{[], ◌∷◌}
 use contract.Lifetimes.{Lfts}
 use Rattle.demands.proofs.Contract.{Gives, answer}
 use Rattle.wire.specs.Parts.{Part, part}
@@ -26,8 +27,9 @@ use Rattle.matching.proofs.entry_of.Reads as entry_of_contract
 use Rattle.matching.proofs.fits_packet.Reads as fits_packet_contract
 use Rattle.texts.specs.Text.{field, address}
 use Rattle.texts.specs.Put.{Put, put}
-use Rattle.texts.proofs.put_field.Reads as put_field_contract
-use Rattle.texts.proofs.put_address.Reads as put_address_contract
+use Rattle.texts.proofs.Writer.put_byte.Reads as put_byte_contract
+use Rattle.texts.proofs.Writer.put_field.Reads as put_field_contract
+use Rattle.texts.proofs.Writer.put_address.Reads as put_address_contract
 use Rattle.notices.specs.Text.{refusal_text, waiting_text}
 use Rattle.listing.specs.Text.{table_text}
 use Rattle.notices.specs.Listing.{Listing, written, listing}
@@ -82,13 +84,17 @@ fits_packet_gives κs a x s h = h
 
 -- ---- texts: the place behind the text and the lent buffer
 
-pub put_field_gives : (κs : Lfts 2) → Gives {L = Put} (λ x s. record { next = x; out = s.1.1.0.now }) (put_field_contract.Post κs)
-    (λ a. (put) (field a.0.now a.1.0) a.1.1.0.now a.1.1.1.0)
-put_field_gives κs a x s h = h
+pub put_byte_gives : (κs : Lfts 2) → Gives {L = Put} (λ x s. record { next = s.0.now.at; out = s.0.now.out.now }) (put_byte_contract.Post κs)
+    (λ a. (put) (a.1.0 ∷ []) a.0.now.out.now a.0.now.at)
+put_byte_gives κs a x s h = h.1
 
-pub put_address_gives : (κs : Lfts 2) → Gives {L = Put} (λ x s. record { next = x; out = s.1.1.0.now }) (put_address_contract.Post κs)
-    (λ a. (put) (address a.0.now a.1.0) a.1.1.0.now a.1.1.1.0)
-put_address_gives κs a x s h = h
+pub put_field_gives : (κs : Lfts 3) → Gives {L = Put} (λ x s. record { next = s.0.now.at; out = s.0.now.out.now }) (put_field_contract.Post κs)
+    (λ a. (put) (field a.1.0.now a.1.1.0) a.0.now.out.now a.0.now.at)
+put_field_gives κs a x s h = h.1
+
+pub put_address_gives : (κs : Lfts 3) → Gives {L = Put} (λ x s. record { next = s.0.now.at; out = s.0.now.out.now }) (put_address_contract.Post κs)
+    (λ a. (put) (address a.1.0.now a.1.1.0) a.0.now.out.now a.0.now.at)
+put_address_gives κs a x s h = h.1
 
 -- ---- notices, listing and bodies: the answer and the lent buffer
 

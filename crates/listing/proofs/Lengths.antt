@@ -1,9 +1,9 @@
 -- How long a line can be (specs/Text.antt): sizes_line-short 44, rule_line-short 66, classifier_line-short 30, channel_line-short 19, timers_line-short 31.
--- The lines of a list are as long as its limit allows: lined_listed.
+-- The lines of a list are as long as its limit allows: lined_listed. A field that shows a count: wrote_count.
 -- Trusts: nothing.
 use Prim.Native.Nat.{ℕ, ◌*◌, ◌^◌, ◌≤◌, ◌<◌}
-use mathlib.Core.Path.{◌≡◌, subst}
-use mathlib.Core.List.{List}
+use mathlib.Core.Path.{◌≡◌, subst, ap, ◌∙◌}
+use mathlib.Core.List.{List, ◌++◌}
 use native.Mathlib.Nat.{mul-le-mul_left}
 use lib.ListN.{length}
 use Rattle.table.specs.declared.Rule.{Rule}
@@ -11,9 +11,11 @@ use Rattle.table.specs.declared.Classifier.{Classifier}
 use Rattle.table.specs.declared.TimerValues.{TimerValues}
 use Rattle.table.specs.declared.Table.{Table}
 use Rattle.table.proofs.Laws.{length-rules_of_le, length-classifiers_of_le, length-channels_of_le, length-clients_of_le, length-numbers_of_le}
-use Rattle.texts.specs.Text.{each}
-use Rattle.texts.specs.Writing.{Short, Lined}
+use Rattle.texts.specs.Text.{field, each}
+use Rattle.texts.specs.Put.{put}
+use Rattle.texts.specs.Writing.{Fits, Wrote, Short, Lined}
 use Rattle.texts.proofs.Lengths.{join-short, end_short, field-short, address-short, count-short, lined-most}
+use Rattle.texts.proofs.Puts.{wrote_put}
 use Rattle.listing.specs.Text.{sizes_line, rule_line, classifier_line, channel_line, timers_line}
 
 pub sizes_line-short : (count : ℕ) (t : Table) → count < 256 → Short 44 (sizes_line count t)
@@ -52,3 +54,8 @@ pub lined_listed : {A : Type 0} (most limit : ℕ) (line : A → List ℕ) {xs l
 lined_listed {A} most limit line {xs} {l} {out} {new} {at} {next} same few w =
     lined-most (most * length l) (most * limit) (mul-le-mul_left {m = length l} {n = limit} most few)
     (subst (λ (x : List A). Lined (most * length x) out at (each line x) new next) same w)
+
+-- the count that is printed is the length of a list
+pub wrote_count : {out new last t : List ℕ} {at next end m n : ℕ} (word : List ℕ) → m ≡ n → Fits out at (field word n ++ t)
+    → record { next = next; out = new } ≡ put (field word m) out at → (Fits new next t → Wrote new next t last end) → Wrote out at (field word n ++ t) last end
+wrote_count {out} {at = at} {n = n} word e h w k = wrote_put (field word n) h (w ∙ ap (λ (x : ℕ). put (field word x) out at) e) k

@@ -15,6 +15,7 @@ use lines::{put_channels, put_classifiers, put_rules, put_sizes, put_timers};
 use notices::LISTING_BYTES;
 use refusals::Refusal;
 use table::Table;
+use texts::Writer;
 
 // The listing of a table and the change count that it came under.
 pub fn list_table(count: u8, table: Table, out: &mut [u8]) -> Result<usize, Refusal>
@@ -23,10 +24,11 @@ pub fn list_table(count: u8, table: Table, out: &mut [u8]) -> Result<usize, Refu
     if out.len() < LISTING_BYTES {
         return Err(Refusal::ShortListing);
     }
-    let timers = table.timers;
-    let a = put_sizes(count, table, out, 0);
-    let b = put_rules(table, out, a);
-    let c = put_classifiers(table, out, b);
-    let d = put_channels(table, out, c);
-    Ok(put_timers(timers, out, d))
+    let mut w = Writer { out, at: 0 };
+    put_sizes(count, table, &mut w);
+    put_rules(table, &mut w);
+    put_classifiers(table, &mut w);
+    put_channels(table, &mut w);
+    put_timers(table.timers, &mut w);
+    Ok(w.at)
 }

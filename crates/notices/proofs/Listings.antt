@@ -2,9 +2,10 @@
 --
 --   listing-refused   a short buffer                 listing-text    the text was written from 0 on
 --   listing_within    a text that was written lies in the buffer
+--   listing_lent      the text was written by a writer, to which the buffer was lent
 -- Trusts: nothing.
 use Prim.Native.Nat.{ℕ, ◌≤◌, ◌<◌}
-use mathlib.Core.Path.{◌≡◌, refl, ap, ◌∙◌}
+use mathlib.Core.Path.{◌≡◌, refl, sym, ap, subst, ◌∙◌}
 use mathlib.Core.Bool.{Bool, true, false, cond}
 use mathlib.Core.List.{List, ◌++◌}
 use native.Mathlib.Omega.{arith}
@@ -27,6 +28,11 @@ listing-text {most} {bytes} {out} {new} {next} h m w =
     let same : new ≡ bytes ++ drop (length bytes) out =
     w.wrote.bytes ∙ pasted-fits out 0 bytes (omega (arith, w.short.bytes)) ∙ ap (λ (k : ℕ). bytes ++ drop k out) (zero-add (length bytes)) in
     rw (le-ltb (length out) 3755 h, place, same) refl
+
+pub listing_lent : {most next : ℕ} {bytes out new last : List ℕ} → last ≡ new → 3755 ≤ length out → most ≤ 3755 → Lined most out 0 bytes new next
+    → record { answer = text next; out = last } ≡ listing bytes out
+listing_lent {next = next} {bytes = bytes} {out = out} e h m w =
+    subst (λ (l : List ℕ). record { answer = text next; out = l } ≡ listing bytes out) (sym e) (listing-text h m w)
 
 pub listing_within : {k : ℕ} {new : List ℕ} (bytes out : List ℕ) → record { answer = text k; out = new } ≡ listing bytes out → k ≤ length new
 unfolding listing

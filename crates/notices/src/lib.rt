@@ -5,42 +5,36 @@
 // buffer's start, leave every byte behind it as it was, and answer the text's length.
 #![tactic(auto)]
 
-ghost use Rattle.std.specs.Prelude.{◌≡◌, [], ◌∷◌, ◌++◌, ◌+◌, ◌≤◌, length};
-ghost use Rattle.texts.specs.Text.{field};
-ghost use Rattle.texts.specs.Writing.{Fits, Wrote, Lined};
+ghost use Rattle.std.specs.Prelude.{◌≡◌, ◌+◌, ◌≤◌, length};
+ghost use Rattle.texts.specs.Writing.{Lined};
 ghost use Rattle.notices.specs.Text.{refusal_text, waiting_text};
 ghost use Rattle.notices.specs.Listing.{written, listing};
 
 use refusals::Refusal;
+use texts::Writer;
 
 // The least buffer that is taken: the longest listing of any table (crate listing).
 pub const LISTING_BYTES: usize = 3755;
 
-// Writes a fixed word and a number behind it, and ends the line.
-fn put_last(word: &[u8], n: u64, out: &mut [u8], at: usize) -> usize
-    requires { Fits out.old at (field word.now n ++ (10 ∷ [])) }
-    ensures { Wrote out.old at (field word.now n ++ (10 ∷ [])) out.new result }
-{
-    let next = texts::put_field(word, n, out, at);
-    out[next] = 10;
-    next + 1
-}
-
 // The line of a refusal.
-fn put_refusal(number: u8, offset: usize, out: &mut [u8], at: usize) -> usize
-    requires { at + 36 ≤ length out.old }
-    ensures { Lined 36 out.old at (refusal_text number offset) out.new result }
+fn put_refusal(number: u8, offset: usize, w: &mut Writer<'_>)
+    requires { w.old.at + 36 ≤ length w.old.out.now }
+    ensures buffer { w.new.out.ghost_name ≡ w.old.out.ghost_name }
+    ensures text { Lined 36 w.old.out.now w.old.at (refusal_text number offset) w.new.out.now w.new.at }
 {
-    let next = texts::put_field(b"refused ", number as u64, out, at);
-    put_last(b" at ", offset as u64, out, next)
+    w.put_field(b"refused ", number as u64);
+    w.put_field(b" at ", offset as u64);
+    w.put_byte(b'\n');
 }
 
 // The line of an unfinished collection.
-fn put_waiting(slots: u8, out: &mut [u8], at: usize) -> usize
-    requires { at + 12 ≤ length out.old }
-    ensures { Lined 12 out.old at (waiting_text slots) out.new result }
+fn put_waiting(slots: u8, w: &mut Writer<'_>)
+    requires { w.old.at + 12 ≤ length w.old.out.now }
+    ensures buffer { w.new.out.ghost_name ≡ w.old.out.ghost_name }
+    ensures text { Lined 12 w.old.out.now w.old.at (waiting_text slots) w.new.out.now w.new.at }
 {
-    put_last(b"waiting ", slots as u64, out, at)
+    w.put_field(b"waiting ", slots as u64);
+    w.put_byte(b'\n');
 }
 
 // The listing of a refusal: its number and offset.
@@ -50,7 +44,9 @@ pub fn list_refusal(number: u8, offset: usize, out: &mut [u8]) -> Result<usize, 
     if out.len() < LISTING_BYTES {
         return Err(Refusal::ShortListing);
     }
-    Ok(put_refusal(number, offset, out, 0))
+    let mut w = Writer { out, at: 0 };
+    put_refusal(number, offset, &mut w);
+    Ok(w.at)
 }
 
 // The listing of a collection that waits for so many slots.
@@ -60,5 +56,7 @@ pub fn list_waiting(slots: u8, out: &mut [u8]) -> Result<usize, Refusal>
     if out.len() < LISTING_BYTES {
         return Err(Refusal::ShortListing);
     }
-    Ok(put_waiting(slots, out, 0))
+    let mut w = Writer { out, at: 0 };
+    put_waiting(slots, &mut w);
+    Ok(w.at)
 }

@@ -3,7 +3,7 @@
 --   join-short      two texts, one behind the other        end_short         a text is as long as it is
 --   field-short     a word and a number below a bound      count-short       a word and a count
 --   address-short   a word and twelve hexadecimal digits   lined_then        two texts that are short, written one behind the other
---   lined-most      a text that is short is no longer than more bytes
+--   lined-most      a text that is short is no longer than more bytes      lined_room   the room that is left behind it
 -- Trusts: nothing.
 use Prim.Native.Nat.{ℕ, suc, ◌+◌, ◌^◌, ◌≤◌, ◌<◌}
 use mathlib.Core.Path.{ap, ◌∙◌}
@@ -38,11 +38,15 @@ address-short word n = join-short (length word) 12 (end_short word) (record { by
 pub count-short : (word : List ℕ) (k limit : ℕ) {n : ℕ} → n ≤ limit → T (ltb limit (10 ^ suc k)) → Short (length word + suc k) (field word n)
 count-short word k limit h t = field-short word k (lt_of_le_of_lt h (ltb→lt limit (10 ^ suc k) t)) (le→leb (10 ^ suc k) (10 ^ suc k) (le_refl (10 ^ suc k)))
 
+-- what is left of the room behind a text that is short
+pub lined_room : {out : List ℕ} {at : ℕ} {s new : List ℕ} {next : ℕ} (m n : ℕ) → at + (m + n) ≤ length out → Lined m out at s new next → next + n ≤ length new
+lined_room {out} {at} {s} m n h v = omega (arith, v.wrote.place, v.short.bytes, ap length v.wrote.bytes ∙ length-pasted out at s)
+
 -- what follows the first text is told that it has room
 pub lined_then : {out : List ℕ} {at : ℕ} {s t new last : List ℕ} {next end : ℕ} (m n : ℕ) → at + (m + n) ≤ length out → Lined m out at s new next
     → (next + n ≤ length new → Lined n new next t last end) → Lined (m + n) out at (s ++ t) last end
-lined_then {out} {at} {s} m n h v follows =
-    let w = follows (omega (arith, v.wrote.place, v.short.bytes, ap length v.wrote.bytes ∙ length-pasted out at s)) in
+lined_then m n h v follows =
+    let w = follows (lined_room m n h v) in
     let short = join-short m n v.short w.short in
     record { wrote = wrote_then (fits-most (m + n) h short) v.wrote w.wrote; short = short }
 

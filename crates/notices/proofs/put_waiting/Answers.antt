@@ -1,14 +1,11 @@
 -- `notices::put_waiting` writes `waiting_text`.
 -- Trusts: nothing.
+use Rattle.texts.proofs.Puts.{lined-put, wrote_put, wrote_end}
 use Rattle.notices.specs.Text.{waiting_text}
 use Rattle.notices.proofs.Lengths.{waiting_text-short}
-use Rattle.texts.proofs.Written.{fits-most}
 use Rattle.notices.proofs.put_waiting.Goals as goal
 
-pub put_last-requires : goal.put_last-requires
+pub returns-clause-text : goal.returns-clause-text
 unfolding waiting_text
-put_last-requires c = fits-most 12 c.requires (waiting_text-short _ c.ranges.slots.fits)
-
-pub returns : goal.returns
-unfolding waiting_text
-returns c = record { wrote = c.put_last.ensures; short = waiting_text-short _ c.ranges.slots.fits }
+returns-clause-text c =
+    lined-put 12 c.requires (waiting_text-short _ c.ranges.slots.fits) (λ f. wrote_put _ f c.put_field.ensures.text (wrote_end c.put_byte.ensures.text))

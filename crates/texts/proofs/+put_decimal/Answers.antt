@@ -15,19 +15,19 @@ one {n} h e = decimal_digit n h ∙ ap (λ (x : ℕ). x ∷ []) (sym e)
 more : {n d : ℕ} → 10 ≤ n → d ≡ digit (n % 10) → decimal n ≡ decimal (n / 10) ++ (d ∷ [])
 more {n} h e = decimal-more n h ∙ ap (λ (x : ℕ). decimal (n / 10) ++ (x ∷ [])) (sym e)
 
-pub put_byte-requires : goal.put_byte-requires
-put_byte-requires t c = fits_same (one c.if-n-lt10.true c.glyph.ensures) c.requires
+pub put_digit-requires : goal.put_digit-requires
+put_digit-requires t c = fits_same (one c.if-n-lt10.true c.glyph.ensures) c.requires
 
 pub returns-then-n-lt10 : goal.returns-then-n-lt10
-returns-then-n-lt10 t c = wrote_same (sym (one c.if-n-lt10.true c.glyph.ensures)) c.put_byte.ensures
+returns-then-n-lt10 t c = wrote_same (sym (one c.if-n-lt10.true c.glyph.ensures)) c.put_digit.ensures
 
 pub put_decimal-next-requires : goal.put_decimal-next-requires
 put_decimal-next-requires t c = (omega arith, fits-first _ (fits_same (decimal-more _ c.if-n-lt10.false) c.requires))
 
-pub put_byte-requires-2 : goal.put_byte-requires-2
-put_byte-requires-2 t c = fits_rest (fits_same (more c.if-n-lt10.false c.glyph-2.ensures) c.requires) c.put_decimal-next.ensures
+pub put_digit-requires-2 : goal.put_digit-requires-2
+put_digit-requires-2 t c = fits_rest (fits_same (more c.if-n-lt10.false c.glyph-2.ensures) c.requires) c.put_decimal-next.ensures
 
 pub returns : goal.returns
 returns t c =
     let e = more c.if-n-lt10.false c.glyph-2.ensures in
-    wrote_same (sym e) (wrote_then (fits_same e c.requires) c.put_decimal-next.ensures c.put_byte-2.ensures)
+    wrote_same (sym e) (wrote_then (fits_same e c.requires) c.put_decimal-next.ensures c.put_digit-2.ensures)

@@ -17,10 +17,10 @@ returns-then-width-eq0 t c = wrote_same (sym (hexadecimal-none _ _ c.if-width-eq
 pub put_hexadecimal-next-requires : goal.put_hexadecimal-next-requires
 put_hexadecimal-next-requires t c = (omega arith, fits-first _ (fits_same (hexadecimal-more _ _ c.if-width-eq0.false) c.requires))
 
-pub put_byte-requires : goal.put_byte-requires
-put_byte-requires t c = fits_rest (fits_same (more _ c.if-width-eq0.false c.glyph.ensures) c.requires) c.put_hexadecimal-next.ensures
+pub put_digit-requires : goal.put_digit-requires
+put_digit-requires t c = fits_rest (fits_same (more _ c.if-width-eq0.false c.glyph.ensures) c.requires) c.put_hexadecimal-next.ensures
 
 pub returns : goal.returns
 returns t c =
     let e = more _ c.if-width-eq0.false c.glyph.ensures in
-    wrote_same (sym e) (wrote_then (fits_same e c.requires) c.put_hexadecimal-next.ensures c.put_byte.ensures)
+    wrote_same (sym e) (wrote_then (fits_same e c.requires) c.put_hexadecimal-next.ensures c.put_digit.ensures)

@@ -1,20 +1,13 @@
--- `listing::lines::put_classifier` writes `classifier_line`.
+-- `listing::lines::put_classifier` writes `classifier_line`: its fields one behind the other.
 -- Trusts: nothing.
-use Rattle.std.proofs.Common.{rules, sym}
+use Rattle.std.proofs.Common.{rules}
+use Rattle.texts.proofs.Puts.{lined-put, wrote_put, wrote_end}
+use Rattle.listing.specs.Text.{classifier_line}
 use Rattle.listing.proofs.Lengths.{classifier_line-short}
-use Rattle.listing.proofs.Halves.{classifier_line_parts}
-use Rattle.texts.proofs.Written.{fits-most, fits_same, wrote_same}
 use Rattle.listing.proofs.lines.put_classifier.Goals as goal
 
--- the line is short enough, and so has room
-pub put_last_two-requires : goal.put_last_two-requires
-put_last_two-requires c =
-    let short = classifier_line-short c.args.classifier (search rules) (search rules) in
-    fits_same (sym (classifier_line_parts c.args.classifier)) (fits-most 30 c.requires short)
-
-pub returns : goal.returns
-returns c =
-    record {
-      wrote = wrote_same (classifier_line_parts c.args.classifier) c.put_last_two.ensures;
-      short = classifier_line-short c.args.classifier (search rules) (search rules);
-    }
+pub returns-clause-text : goal.returns-clause-text
+unfolding classifier_line
+returns-clause-text c =
+    lined-put 30 c.requires (classifier_line-short c.args.classifier (search rules) (search rules))
+    (λ f. wrote_put _ f c.put_field.ensures.text (λ f. wrote_put _ f c.put_field-2.ensures.text (wrote_end c.put_byte.ensures.text)))

@@ -7,8 +7,8 @@ use Rattle.listing.specs.Text.{classifier_line}
 use Rattle.listing.proofs.Lengths.{lined_listed}
 use Rattle.listing.proofs.lines.put_classifiers.Goals as goal
 
-pub returns : goal.returns
+pub returns-clause-text : goal.returns-clause-text
 unfolding classifiers_of
-returns c =
+returns-clause-text c =
     let same : take c.limited-n.result c.args.table.classifiers ≡ classifiers_of c.args.table = ap (λ (k : ℕ). take k c.args.table.classifiers) c.limited-n.ensures in
-    lined_listed 30 32 classifier_line same (length-classifiers_of_le c.args.table) c.put_each.ensures
+    lined_listed 30 32 classifier_line same (length-classifiers_of_le c.args.table) c.put_each.ensures.text

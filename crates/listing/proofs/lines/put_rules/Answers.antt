@@ -7,8 +7,8 @@ use Rattle.listing.specs.Text.{rule_line}
 use Rattle.listing.proofs.Lengths.{lined_listed}
 use Rattle.listing.proofs.lines.put_rules.Goals as goal
 
-pub returns : goal.returns
+pub returns-clause-text : goal.returns-clause-text
 unfolding rules_of
-returns c =
+returns-clause-text c =
     let same : take c.limited-n.result c.args.table.rules ≡ rules_of c.args.table = ap (λ (k : ℕ). take k c.args.table.rules) c.limited-n.ensures in
-    lined_listed 66 32 rule_line same (length-rules_of_le c.args.table) c.put_each.ensures
+    lined_listed 66 32 rule_line same (length-rules_of_le c.args.table) c.put_each.ensures.text
