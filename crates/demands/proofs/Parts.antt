@@ -28,7 +28,8 @@ use Rattle.elements.proofs.value_at.Reads as value_at_contract
 use Rattle.elements.proofs.Stood.{answer_as, stood_gives}
 use Rattle.types.specs.Places.{type_under}
 use Rattle.musts.specs.Musts.{lacks_must}
-use Rattle.types.proofs.Columns.{columns_only}
+use Rattle.types.specs.Columns.{listed}
+use Rattle.types.proofs.Columns.{found_only}
 use Rattle.types.proofs.find_type.Reads as find_type_contract
 use Rattle.musts.proofs.lacks_must.Reads as lacks_must_contract
 use Rattle.element_tests.specs.Tests.{own_tests}
@@ -95,8 +96,8 @@ empty_table_gives κs a x s h = h
 
 -- ---- types
 
-pub find_type_gives : (κs : Lfts 0) → Gives answer (find_type_contract.Post κs) (λ a. type_under a.0 a.1.0)
-find_type_gives κs a x s h = columns_only _ _ h
+pub find_type_gives : (κs : Lfts 0) → Gives answer (find_type_contract.Post κs) (λ a. listed (type_under a.0 a.1.0))
+find_type_gives κs a x s h = found_only _ _ h
 
 -- ---- musts
 

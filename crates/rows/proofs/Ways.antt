@@ -36,9 +36,9 @@ module _ (msg : List ℕ) (parent own at end : ℕ) (t : List ℕ) {h : Head} (e
     row_goes z q = sym (row-rule msg parent own at end t ∙ simp (← e, b, ← x, eq-eqb _ _ z, ← q))
 
 module _ (msg : List ℕ) (parent at len : ℕ) (t : List ℕ) where
-  pub elem_unlisted : {known : Known} → known ≡ type_under parent (get_or msg at 0) → known.place ≡ 26 → stepped 0 at 8 0 ≡ element_of msg parent at len t
+  pub elem_unlisted : (type_under parent (get_or msg at 0)).place ≡ 26 → stepped 0 at 8 0 ≡ element_of msg parent at len t
   unfolding element_of element_with
-  elem_unlisted e z = simp (← e, eq-eqb _ _ z)
+  elem_unlisted z = simp (eq-eqb _ _ z)
 
   -- the element has a listed type, and `own` is what its own tests say
   pub record Own (known : Known) (own : Step) : Type 0 where

@@ -77,16 +77,14 @@ fn element(message: &[u8], parent: usize, at: usize, len: usize, counts: &[u8; 8
     requires { at + 2 + len ≤ length message.now }
     ensures { result ≡ element_of message.now parent at len counts.now }
 {
-    let known = types::find_type(parent, message[at]);
-    let place = known.place;
-    if place == types::UNLISTED {
+    let Some(known) = types::find_type(parent, message[at]) else {
         return Step {
             bad: 0,
             off: at,
             list: NO_LIST,
             count: 0,
         };
-    }
+    };
     let list = known.list;
     let count = counts[list];
     let own = element_tests::own_tests(message, known, at, len, count);
@@ -97,7 +95,7 @@ fn element(message: &[u8], parent: usize, at: usize, len: usize, counts: &[u8; 8
     if !is_row(lengths) {
         return own;
     }
-    let inner = row_from(message, place, at, at + 2, at + 2 + len);
+    let inner = row_from(message, known.place, at, at + 2, at + 2 + len);
     if inner.bad != 0 {
         return Step {
             bad: inner.bad,
@@ -164,9 +162,7 @@ pub fn test_element(message: &[u8], at: usize, tally: Tally) -> Tested
             tally,
         },
         Ok(Some(len)) => {
-            let known = types::find_type(types::TOP_LEVEL, message[at]);
-            let place = known.place;
-            if place == types::UNLISTED {
+            if types::find_type(types::TOP_LEVEL, message[at]).is_none() {
                 return Tested {
                     bad: 0,
                     off: at,

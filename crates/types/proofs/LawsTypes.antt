@@ -13,7 +13,8 @@ use Prim.Native.Nat.{ℕ, zero, suc, ◌<◌}
 use borrow.Author.Tests.{ltb-true}
 use lib.Dec.{ltb}
 use native.Mathlib.Nat.{not-suc-le-zero, le_of_suc-le-suc}
-use lib.ListN.{length, get_or, get_or-map}
+use lib.ListN.{get_or, get_or-map}
+use Rattle.std.proofs.lemmas.List.{get_or_default}
 use Rattle.types.specs.Types.{Entry, known_types}
 use Rattle.types.specs.Places.{Line, line, no_line, child_of, under, placed, type_of, parent_in, table, line_at, place_in, known_at, type_under}
 use Rattle.types.specs.declared.Length.TheVariants.{Row, Bytes, NoneOr, OrMore}
@@ -54,12 +55,6 @@ pub table_lines : table ≡ lines
 unfolding known_types child_of under placed type_of parent_in table lines
 table_lines = refl
 
--- what stands at a place of a list does not depend on what stands past it
-get_d_any : {A : Type 0} (l : List A) (i : ℕ) (x y : A) → i < length l → get_or l i x ≡ get_or l i y
-get_d_any [] i x y h = absurd (not-suc-le-zero h)
-get_d_any (a ∷ l) zero x y h = refl
-get_d_any (a ∷ l) (suc i) x y h = get_d_any l i x y (le_of_suc-le-suc h)
-
 -- two functions that agree on a list and on what stands past it agree at every place
 pub map_at : {A B : Type 0} (f g : A → B) (l : List A) (d : A) (n : ℕ) → map f l ≡ map g l → f d ≡ g d → f (get_or l n d) ≡ g (get_or l n d)
 map_at f g l d n e z = sym (get_or-map f l n d) ∙ rw (e, z) (get_or-map g l n d)
@@ -67,7 +62,7 @@ map_at f g l d n e z = sym (get_or-map f l n d) ∙ rw (e, z) (get_or-map g l n 
 module _ (i : ℕ) (h : i < 26) where
   pub column_at : {B : Type 0} (f : Line → B) (d : B) → get_or (map f lines) i d ≡ f (line_at i)
   unfolding line_at lines
-  column_at f d = rw table_lines (get_d_any (map f lines) i d (f no_line) h ∙ get_or-map f lines i no_line)
+  column_at f d = rw table_lines (get_or_default (map f lines) i d (f no_line) h ∙ get_or-map f lines i no_line)
 
 line_at_list : (i : ℕ) {l : ℕ} → l ≡ (line_at i).list → l < 8
 unfolding line_at lines

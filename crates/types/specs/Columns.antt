@@ -3,9 +3,12 @@
 --   Lengths, lengths l   the Length column: a row; so many bytes; none or so many; so many or more
 --   Allowed, allowed v   what the Meaning column allows: any value; any number but 0; a channel
 --   Columns, columns k   the columns of a type, with its place, its room and its list
+--   Found, found o       an answer: the type is not listed in its row, or its columns
+--   listed k             what the table says of a type as an answer: the place 26 is no type's
+--   place_of n           the same of a place by itself; cited by no promise
 --
 -- Trusts: nothing.
-use Rattle.std.specs.Prelude.{ℕ, Bool}
+use Rattle.std.specs.Prelude.{ℕ, Bool, cond, Option, None, Some, eqb, ltb}
 use Rattle.types.specs.declared.Length.{Length}
 use Rattle.types.specs.declared.Length.TheVariants.{Row, Bytes, NoneOr, OrMore}
 use Rattle.types.specs.declared.Values.{Values}
@@ -45,3 +48,17 @@ pub record Columns : Type 0 where
 unfoldable pub columns : Known → Columns
 columns k =
     record { place = k.place; length = lengths k.length; repeats = k.repeats; values = allowed k.values; room = k.room; list = k.list }
+
+pub data Found : Type 0 where
+  unlisted : Found
+  known : Columns → Found
+
+unfoldable pub found : Option Known → Found
+found None = unlisted
+found (Some k) = known (columns k)
+
+unfoldable pub listed : Known → Option Known
+listed k = cond (eqb k.place 26) None (Some k)
+
+unfoldable pub place_of : ℕ → Option ℕ
+place_of n = cond (ltb n 26) (Some n) None

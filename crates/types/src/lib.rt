@@ -1,21 +1,18 @@
-// The known types of document 01's table as constant arrays, a column each, and their look-up.
+// The known types of document 01's table as a constant array, a line each, and their look-up.
 //
 // One public function, `find_type`. It takes any numbers and refuses nothing: a row that is no type's, and a
 // type that is not listed there, are answered as such. The column of needs stands in the crate musts.
 //
-// Types have places, 0 to 25, the same in every array; the types of one row stand together. A row is named
+// Types have places, 0 to 25, in the order of the array; the types of one row stand together. A row is named
 // by the place of the type whose value it is, and the message itself by 26.
 #![tactic(auto)]
 
 ghost use Rattle.std.specs.Prelude.{◌≡◌, ◌&&◌, ◌-◌, ◌≤◌, ◌<◌, eqb};
-ghost use Rattle.types.specs.Places.{type_under, place_in, line_at, known_at};
-ghost use Rattle.types.specs.Columns.{columns};
+ghost use Rattle.types.specs.Places.{known_at, line_at, place_in, type_under};
+ghost use Rattle.types.specs.Columns.{found, listed, place_of};
 
 // The row that is the whole message.
 pub const TOP_LEVEL: usize = 26;
-
-// The place of a type that is not listed in its row.
-pub const UNLISTED: usize = 26;
 
 // The lengths that a value may have.
 #[derive(Clone, Copy)]
@@ -44,7 +41,6 @@ pub enum Values {
 // What the table says of one type.
 #[derive(Clone, Copy)]
 pub struct Known {
-    // Its place; 26 where the type is not listed.
     pub place: usize,
     pub length: Length,
     pub repeats: bool,
@@ -55,366 +51,129 @@ pub struct Known {
     pub list: usize,
 }
 
-// The type.
-const KINDS: [u8; 26] = [
-    23, // 23
-    50, // 50
-    51, // 51
-    2, // 23.2
-    5, // 23.5
-    9, // 23.9
-    3, // 23.9.3
-    4, // 23.9.4
-    5, // 23.9.5
-    9, // 23.9.9
-    10, // 23.9.10
-    1, // 50.1
-    2, // 50.2
-    3, // 50.3
-    4, // 50.4
-    5, // 50.5
-    6, // 50.6
-    1, // 50.4.1
-    2, // 50.4.2
-    3, // 50.4.3
-    4, // 50.4.4
-    1, // 51.1
-    2, // 51.2
-    3, // 51.3
-    4, // 51.4
-    5, // 51.5
-];
+// A line of the table: a type, the row that it stands in, and what the table says of it.
+#[derive(Clone, Copy)]
+struct TypeLine {
+    kind: u8,
+    parent: usize,
+    known: Known,
+}
 
-// The rows: the message itself, and the places of the five types whose value is a row.
-const MESSAGE: u8 = 26;
+// The rows: the places of the five types whose value is a row.
+const CLASSIFIER: usize = 0;
 
-const CLASSIFIER: u8 = 0;
+const IP_PART: usize = 5;
 
-const IP_PART: u8 = 5;
+const RULE: usize = 1;
 
-const RULE: u8 = 1;
+const CLIENT_IDS: usize = 14;
 
-const CLIENT_IDS: u8 = 14;
+const CONFIGURATION: usize = 2;
 
-const CONFIGURATION: u8 = 2;
-
-// The row that the type stands in.
-const PARENTS: [u8; 26] = [
-    MESSAGE, // 23
-    MESSAGE, // 50
-    MESSAGE, // 51
-    CLASSIFIER, // 23.2
-    CLASSIFIER, // 23.5
-    CLASSIFIER, // 23.9
-    IP_PART, // 23.9.3
-    IP_PART, // 23.9.4
-    IP_PART, // 23.9.5
-    IP_PART, // 23.9.9
-    IP_PART, // 23.9.10
-    RULE, // 50.1
-    RULE, // 50.2
-    RULE, // 50.3
-    RULE, // 50.4
-    RULE, // 50.5
-    RULE, // 50.6
-    CLIENT_IDS, // 50.4.1
-    CLIENT_IDS, // 50.4.2
-    CLIENT_IDS, // 50.4.3
-    CLIENT_IDS, // 50.4.4
-    CONFIGURATION, // 51.1
-    CONFIGURATION, // 51.2
-    CONFIGURATION, // 51.3
-    CONFIGURATION, // 51.4
-    CONFIGURATION, // 51.5
-];
-
-// The lengths that are no number of bytes.
-const ROW: u8 = 255;
-
-const NONE_OR_2: u8 = 254;
-
-const ONE_OR_MORE: u8 = 253;
-
-// The length: one of these, or the number of bytes.
-const LENGTHS: [u8; 26] = [
-    ROW, // 23
-    ROW, // 50
-    ROW, // 51
-    2, // 23.2
-    1, // 23.5
-    ROW, // 23.9
-    4, // 23.9.3
-    4, // 23.9.4
-    4, // 23.9.5
-    2, // 23.9.9
-    2, // 23.9.10
-    1, // 50.1
-    1, // 50.2
-    ONE_OR_MORE, // 50.3
-    ROW, // 50.4
-    6, // 50.5
-    2, // 50.6
-    NONE_OR_2, // 50.4.1
-    6, // 50.4.2
-    2, // 50.4.3
-    2, // 50.4.4
-    4, // 51.1
-    2, // 51.2
-    2, // 51.3
-    2, // 51.4
-    2, // 51.5
-];
-
-const YES: bool = true;
+const REPEATS: bool = true;
 
 const ONCE: bool = false;
-
-// The repeat mark.
-const REPEATS: [bool; 26] = [
-    YES, // 23
-    YES, // 50
-    ONCE, // 51
-    ONCE, // 23.2
-    ONCE, // 23.5
-    ONCE, // 23.9
-    ONCE, // 23.9.3
-    ONCE, // 23.9.4
-    ONCE, // 23.9.5
-    ONCE, // 23.9.9
-    ONCE, // 23.9.10
-    ONCE, // 50.1
-    ONCE, // 50.2
-    ONCE, // 50.3
-    ONCE, // 50.4
-    ONCE, // 50.5
-    YES, // 50.6
-    YES, // 50.4.1
-    YES, // 50.4.2
-    YES, // 50.4.3
-    YES, // 50.4.4
-    YES, // 51.1
-    ONCE, // 51.2
-    ONCE, // 51.3
-    ONCE, // 51.4
-    ONCE, // 51.5
-];
-
-// The values that are allowed.
-const VALUES: [Values; 26] = [
-    Values::Any, // 23
-    Values::Any, // 50
-    Values::Any, // 51
-    Values::NotZero, // 23.2
-    Values::Any, // 23.5
-    Values::Any, // 23.9
-    Values::Any, // 23.9.3
-    Values::Any, // 23.9.4
-    Values::Any, // 23.9.5
-    Values::Any, // 23.9.9
-    Values::Any, // 23.9.10
-    Values::Any, // 50.1
-    Values::Any, // 50.2
-    Values::Any, // 50.3
-    Values::Any, // 50.4
-    Values::Any, // 50.5
-    Values::NotZero, // 50.6
-    Values::NotZero, // 50.4.1
-    Values::Any, // 50.4.2
-    Values::Any, // 50.4.3
-    Values::Any, // 50.4.4
-    Values::Channel, // 51.1
-    Values::NotZero, // 51.2
-    Values::NotZero, // 51.3
-    Values::Any, // 51.4
-    Values::Any, // 51.5
-];
 
 // The room of a type without a list: more than a value can have bytes.
 const NO_LIST: u8 = 255;
 
-// The room of the type's list.
-const ROOMS: [u8; 26] = [
-    32, // 23
-    32, // 50
-    NO_LIST, // 51
-    NO_LIST, // 23.2
-    NO_LIST, // 23.5
-    NO_LIST, // 23.9
-    NO_LIST, // 23.9.3
-    NO_LIST, // 23.9.4
-    NO_LIST, // 23.9.5
-    NO_LIST, // 23.9.9
-    NO_LIST, // 23.9.10
-    NO_LIST, // 50.1
-    NO_LIST, // 50.2
-    16, // 50.3
-    NO_LIST, // 50.4
-    NO_LIST, // 50.5
-    8, // 50.6
-    8, // 50.4.1
-    8, // 50.4.2
-    8, // 50.4.3
-    8, // 50.4.4
-    32, // 51.1
-    NO_LIST, // 51.2
-    NO_LIST, // 51.3
-    NO_LIST, // 51.4
-    NO_LIST, // 51.5
+// A line of the table: the place, the row, the type, its length, its repeat mark, the values that are allowed, and the
+// room and the number of its list.
+macro_rules! line {
+    ($place:expr => $parent:expr, $kind:expr, $length:expr, $repeats:expr, $values:expr, $room:expr, $list:expr) => {
+        TypeLine {
+            kind: $kind,
+            parent: $parent,
+            known: Known {
+                place: $place,
+                length: $length,
+                repeats: $repeats,
+                values: $values,
+                room: $room,
+                list: $list,
+            },
+        }
+    };
+}
+
+// The table.
+static TYPES: [TypeLine; 26] = [
+    line!(0 => TOP_LEVEL, 23, Length::Row, REPEATS, Values::Any, 32, 0), // 23
+    line!(1 => TOP_LEVEL, 50, Length::Row, REPEATS, Values::Any, 32, 1), // 50
+    line!(2 => TOP_LEVEL, 51, Length::Row, ONCE, Values::Any, NO_LIST, 2), // 51
+    line!(3 => CLASSIFIER, 2, Length::Bytes(2), ONCE, Values::NotZero, NO_LIST, 0), // 23.2
+    line!(4 => CLASSIFIER, 5, Length::Bytes(1), ONCE, Values::Any, NO_LIST, 1), // 23.5
+    line!(5 => CLASSIFIER, 9, Length::Row, ONCE, Values::Any, NO_LIST, 2), // 23.9
+    line!(6 => IP_PART, 3, Length::Bytes(4), ONCE, Values::Any, NO_LIST, 0), // 23.9.3
+    line!(7 => IP_PART, 4, Length::Bytes(4), ONCE, Values::Any, NO_LIST, 1), // 23.9.4
+    line!(8 => IP_PART, 5, Length::Bytes(4), ONCE, Values::Any, NO_LIST, 2), // 23.9.5
+    line!(9 => IP_PART, 9, Length::Bytes(2), ONCE, Values::Any, NO_LIST, 3), // 23.9.9
+    line!(10 => IP_PART, 10, Length::Bytes(2), ONCE, Values::Any, NO_LIST, 4), // 23.9.10
+    line!(11 => RULE, 1, Length::Bytes(1), ONCE, Values::Any, NO_LIST, 0), // 50.1
+    line!(12 => RULE, 2, Length::Bytes(1), ONCE, Values::Any, NO_LIST, 1), // 50.2
+    line!(13 => RULE, 3, Length::OrMore(1), ONCE, Values::Any, 16, 2), // 50.3
+    line!(14 => RULE, 4, Length::Row, ONCE, Values::Any, NO_LIST, 3), // 50.4
+    line!(15 => RULE, 5, Length::Bytes(6), ONCE, Values::Any, NO_LIST, 4), // 50.5
+    line!(16 => RULE, 6, Length::Bytes(2), REPEATS, Values::NotZero, 8, 5), // 50.6
+    line!(17 => CLIENT_IDS, 1, Length::NoneOr(2), REPEATS, Values::NotZero, 8, 0), // 50.4.1
+    line!(18 => CLIENT_IDS, 2, Length::Bytes(6), REPEATS, Values::Any, 8, 0), // 50.4.2
+    line!(19 => CLIENT_IDS, 3, Length::Bytes(2), REPEATS, Values::Any, 8, 0), // 50.4.3
+    line!(20 => CLIENT_IDS, 4, Length::Bytes(2), REPEATS, Values::Any, 8, 0), // 50.4.4
+    line!(21 => CONFIGURATION, 1, Length::Bytes(4), REPEATS, Values::Channel, 32, 0), // 51.1
+    line!(22 => CONFIGURATION, 2, Length::Bytes(2), ONCE, Values::NotZero, NO_LIST, 1), // 51.2
+    line!(23 => CONFIGURATION, 3, Length::Bytes(2), ONCE, Values::NotZero, NO_LIST, 2), // 51.3
+    line!(24 => CONFIGURATION, 4, Length::Bytes(2), ONCE, Values::Any, NO_LIST, 3), // 51.4
+    line!(25 => CONFIGURATION, 5, Length::Bytes(2), ONCE, Values::Any, NO_LIST, 4), // 51.5
 ];
 
 // Whether the type at a place is `kind` in the row `parent`.
-fn stands_at(place: usize, parent: u8, kind: u8) -> bool
+fn stands_at(place: usize, parent: usize, kind: u8) -> bool
     requires { place < 26 }
     ensures { result ≡ (eqb (line_at place).parent parent && eqb (line_at place).kind kind) }
 {
-    PARENTS[place] == parent && KINDS[place] == kind
-}
-
-// A byte as a length.
-fn wide(byte: u8) -> usize
-    ensures { result ≡ byte }
-{
-    byte as usize
-}
-
-// The lengths of the type at a place.
-fn length_at(place: usize) -> Length
-    requires { place < 26 }
-    ensures { result ≡ (line_at place).size }
-{
-    let column = LENGTHS[place];
-    match column {
-        ROW => Length::Row,
-        NONE_OR_2 => Length::NoneOr(2),
-        ONE_OR_MORE => Length::OrMore(1),
-        n => Length::Bytes(wide(n)),
-    }
-}
-
-// The values that the type at a place may have.
-fn values_at(place: usize) -> Values
-    requires { place < 26 }
-    ensures { result ≡ (line_at place).values }
-{
-    VALUES[place]
-}
-
-// What the table says of the type at a place, with its lengths and its list.
-fn known_at(place: usize, length: Length, list: usize) -> Known
-    requires { (place < 26) × (length ≡ (line_at place).size) × (list ≡ (line_at place).list) }
-    ensures { result ≡ known_at place }
-{
-    let values = values_at(place);
-    Known {
-        place,
-        length,
-        repeats: REPEATS[place],
-        values,
-        room: ROOMS[place],
-        list,
-    }
-}
-
-// What the table says of a type that is not listed.
-fn no_type() -> Known
-    ensures { result ≡ known_at 26 }
-{
-    Known {
-        place: UNLISTED,
-        length: Length::Bytes(0),
-        repeats: ONCE,
-        values: Values::Any,
-        room: 0,
-        list: 0,
-    }
+    TYPES[place].parent == parent && TYPES[place].kind == kind
 }
 
 // The first place of the type `kind` in the row `parent` among those from `from` to before `after`.
-fn place_between(from: usize, after: usize, parent: u8, kind: u8) -> usize
+fn place_between(from: usize, after: usize, parent: usize, kind: u8) -> Option<usize>
     requires { (from ≤ after) × (after ≤ 26) }
-    ensures { (result ≡ place_in from (after - from) parent kind) × (from ≤ result) × (result ≤ 26) × (result < 26 → result < after) }
+    ensures { result ≡ place_of (place_in from (after - from) parent kind) }
 {
-    let mut i = from;
-    while i < after {
-        if stands_at(i, parent, kind) {
-            return i;
+    for place in from..after {
+        if stands_at(place, parent, kind) {
+            return Some(place);
         }
-        i += 1;
     }
-    UNLISTED
+    None
 }
 
-// A place, and the list of the type there.
-#[derive(Clone, Copy)]
-struct Found {
-    place: usize,
-    list: usize,
-}
-
-// What a search gave in a row whose first place is `first`, and whose types have a list each.
-fn found_in(first: usize, place: usize) -> Found
-    requires { first ≤ place }
-    ensures { (result.place ≡ place) × (place < 26 → result.list ≡ place - first) }
-{
-    if place == UNLISTED {
-        return Found { place, list: 0 };
-    }
-    Found {
-        place,
-        list: place - first,
-    }
-}
-
-// Where the type `kind` stands in the row `parent`, which is not the message. Only that row's few places are looked
-// through. The client IDs have one list together.
-fn find_place(parent: usize, kind: u8) -> Found
-    requires { parent ≡ 26 → ⊥ }
-    ensures { (result.place ≡ place_in 0 26 parent kind) × (result.place ≤ 26) × (result.place < 26 → result.list ≡ (line_at result.place).list) }
+// Where the type `kind` stands in the row `parent`. Only that row's few places are looked through.
+fn find_place(parent: usize, kind: u8) -> Option<usize>
+    ensures { result ≡ place_of (place_in 0 26 parent kind) }
 {
     match parent {
-        0 => found_in(3, place_between(3, 6, CLASSIFIER, kind)),
-        5 => found_in(6, place_between(6, 11, IP_PART, kind)),
-        1 => found_in(11, place_between(11, 17, RULE, kind)),
-        14 => Found {
-            place: place_between(17, 21, CLIENT_IDS, kind),
-            list: 0,
-        },
-        2 => found_in(21, place_between(21, 26, CONFIGURATION, kind)),
-        _ => Found {
-            place: UNLISTED,
-            list: 0,
-        },
+        TOP_LEVEL => place_between(0, 3, TOP_LEVEL, kind),
+        CLASSIFIER => place_between(3, 6, CLASSIFIER, kind),
+        IP_PART => place_between(6, 11, IP_PART, kind),
+        RULE => place_between(11, 17, RULE, kind),
+        CLIENT_IDS => place_between(17, 21, CLIENT_IDS, kind),
+        CONFIGURATION => place_between(21, 26, CONFIGURATION, kind),
+        _ => None,
     }
 }
 
-// What the table says of the type `kind` in the message itself. This one search reads the columns as it goes, so that
-// the compiler sees each index: it is the only work that an unlisted element at top level costs.
-fn find_top(kind: u8) -> Known
-    ensures { result ≡ known_at (place_in 0 3 26 kind) }
+// What the table says of the type at a place.
+fn known_at(place: usize) -> Known
+    requires { place < 26 }
+    ensures { result ≡ known_at place }
 {
-    let mut place = 0;
-    while place < 3 {
-        if stands_at(place, MESSAGE, kind) {
-            let length = length_at(place);
-            return known_at(place, length, place);
-        }
-        place += 1;
-    }
-    no_type()
+    TYPES[place].known
 }
 
-// What the table says of the type `kind` in the row `parent`.
-pub fn find_type(parent: usize, kind: u8) -> Known
-    ensures { columns result ≡ columns (type_under parent kind) }
+// What the table says of the type `kind` in the row `parent`, if it is listed there.
+pub fn find_type(parent: usize, kind: u8) -> Option<Known>
+    ensures { found result ≡ found (listed (type_under parent kind)) }
 {
-    if parent == TOP_LEVEL {
-        return find_top(kind);
-    }
-    let found = find_place(parent, kind);
-    let place = found.place;
-    if place == UNLISTED {
-        return no_type();
-    }
-    let length = length_at(place);
-    known_at(place, length, found.list)
+    let place = find_place(parent, kind)?;
+    Some(known_at(place))
 }

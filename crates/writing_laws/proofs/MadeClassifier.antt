@@ -24,6 +24,7 @@ use Rattle.element_tests.specs.Tests.{stepped, wrong_length, bad_value}
 use Rattle.element_tests.specs.declared.Step.{Step}
 use Rattle.rows.specs.Tests.{none_counted}
 use Rattle.rows.specs.Rows.{row_of, element_of, noted}
+use Rattle.types.specs.declared.Known.{Known}
 use Rattle.rows.proofs.Ways.{elem_unlisted}
 use Rattle.children.specs.Rows.{type_at, row_in, row_fold}
 use Rattle.children.proofs.LawsFolds.{fold_keeps}
@@ -113,7 +114,7 @@ module _ (msg : List ℕ) (octets : Octets msg) (at len : ℕ) (u : List ℕ) (f
           elsewhere 1 _ (omega arith) (element_sees msg 0 at len u (known 4 (Bytes 1) false Any 255 1) (ap (type_under 0) (eqb-true _ _ x) ∙ classifier_5) (λ z. omega (arith, z)) fine).step
       on false true x y =
           elsewhere 2 _ (omega arith) (element_sees msg 0 at len u (known 5 Row false Any 255 2) (ap (type_under 0) (eqb-true _ _ y) ∙ classifier_9) (λ z. omega (arith, z)) fine).step
-      on false false x y = elsewhere 8 0 (omega arith) (sym (elem_unlisted msg 0 at len u (sym (classifier-other (type_at msg at) not2 (eqb-false _ _ x) (eqb-false _ _ y))) refl))
+      on false false x y = elsewhere 8 0 (omega arith) (sym (elem_unlisted msg 0 at len u (ap (λ (k : Known). k.place) (classifier-other (type_at msg at) not2 (eqb-false _ _ x) (eqb-false _ _ y)))))
 
   child_made : (q : Classifier) → ClassifierMade u q → ClassifierMade (noted u step) (with_classifier_child msg at len q)
   unfolding with_classifier_child

@@ -3,7 +3,7 @@
 use Rattle.std.proofs.Common.{arith, length, refl, sym, ap, ◌∙◌}
 use lib.ListN.{length-set}
 use lib.Seq.{set_out}
-use Rattle.types.proofs.Columns.{columns_only}
+use Rattle.types.proofs.Columns.{found_listed, found_unlisted}
 use Rattle.types.proofs.LawsTypes.{type_under-list}
 use Rattle.elements.proofs.Stood.{stood_value, stood_end, stood_refused}
 use Rattle.elements.proofs.Laws.{head_at-fits}
@@ -11,24 +11,23 @@ use Rattle.rows.proofs.Ways.{row_ends, row-bad, row-stops, row_goes, elem_unlist
 use Rattle.rows.proofs.+element_row_from.Goals as goal
 use Rattle.rows.proofs.+element_row_from.Goals.{row_from-then-list-lt-NO_LIST, row_from-else-list-lt-NO_LIST}
 
-pub element-returns-then-place-eq-UNLISTED : goal.element-returns-then-place-eq-UNLISTED
-element-returns-then-place-eq-UNLISTED t c =
-    elem_unlisted _ _ _ _ _ (columns_only _ _ c.find_type-known.ensures) c.if-place-eq-UNLISTED.true
+pub element-returns-in_default : goal.element-returns-in_default
+element-returns-in_default t c = elem_unlisted _ _ _ _ _ (found_unlisted _ c.in_default.ensures)
 
 pub element-bounds-counts-list : goal.element-bounds-counts-list
-element-bounds-counts-list t c = type_under-list _ _ (columns_only _ _ c.find_type-known.ensures)
+element-bounds-counts-list t c = type_under-list _ _ (found_listed _ _ c.in-Some.ensures).0
 
 pub element-returns-then-own-ne0 : goal.element-returns-then-own-ne0
 element-returns-then-own-ne0 t c =
-    elem_own _ _ _ _ _ {known = c.find_type-known.result}
-    (record { typed = columns_only _ _ c.find_type-known.ensures; listed = c.if-place-eq-UNLISTED.false; tests = c.own_tests-own.ensures })
+    elem_own _ _ _ _ _ {known = c.in-Some.known}
+    (record { typed = (found_listed _ _ c.in-Some.ensures).0; listed = (found_listed _ _ c.in-Some.ensures).1; tests = c.own_tests-own.ensures })
     c.if-own-ne0.true
 
 -- the value is no row
 pub element-returns-then-not-is_row : goal.element-returns-then-not-is_row
 element-returns-then-not-is_row t c =
-    elem_leaf _ _ _ _ _ {known = c.find_type-known.result}
-    (record { typed = columns_only _ _ c.find_type-known.ensures; listed = c.if-place-eq-UNLISTED.false; tests = c.own_tests-own.ensures })
+    elem_leaf _ _ _ _ _ {known = c.in-Some.known}
+    (record { typed = (found_listed _ _ c.in-Some.ensures).0; listed = (found_listed _ _ c.in-Some.ensures).1; tests = c.own_tests-own.ensures })
     c.if-own-ne0.false
     c.is_row.ensures
     c.if-not-is_row.true
@@ -39,8 +38,8 @@ element-row_from-inner-requires t c = omega arith
 -- a row that is refused, and one that is not
 pub element-returns-then-inner-ne0 : goal.element-returns-then-inner-ne0
 element-returns-then-inner-ne0 t c =
-    elem_inner _ _ _ _ _ {known = c.find_type-known.result} {own = c.own_tests-own.result}
-    (record { typed = columns_only _ _ c.find_type-known.ensures; listed = c.if-place-eq-UNLISTED.false; tests = c.own_tests-own.ensures })
+    elem_inner _ _ _ _ _ {known = c.in-Some.known} {own = c.own_tests-own.result}
+    (record { typed = (found_listed _ _ c.in-Some.ensures).0; listed = (found_listed _ _ c.in-Some.ensures).1; tests = c.own_tests-own.ensures })
     c.if-own-ne0.false
     c.is_row.ensures
     c.if-not-is_row.false
@@ -49,8 +48,8 @@ element-returns-then-inner-ne0 t c =
 
 pub element-returns : goal.element-returns
 element-returns t c =
-    elem_row _ _ _ _ _ {known = c.find_type-known.result}
-    (record { typed = columns_only _ _ c.find_type-known.ensures; listed = c.if-place-eq-UNLISTED.false; tests = c.own_tests-own.ensures })
+    elem_row _ _ _ _ _ {known = c.in-Some.known}
+    (record { typed = (found_listed _ _ c.in-Some.ensures).0; listed = (found_listed _ _ c.in-Some.ensures).1; tests = c.own_tests-own.ensures })
     c.if-own-ne0.false
     c.is_row.ensures
     c.if-not-is_row.false

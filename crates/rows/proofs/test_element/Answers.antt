@@ -1,12 +1,15 @@
 -- `rows::test_element` gives `tested_at`: one return for each answer of the head; for a whole head one where the type is not listed, one
 -- where the element is counted and one where it is not.
 -- Trusts: nothing.
-use Rattle.std.proofs.Common.{rules, arith, ◌≡◌, ◌+◌, ◌≤◌, List, ℕ, length, refl, sym, ◌∙◌}
+use Rattle.std.proofs.Common.{rules, arith, ◌≡◌, ◌+◌, ◌≤◌, List, ℕ, length, refl, sym, ap, ◌∙◌, Option, None, Some, false, not}
+use Rattle.std.specs.Option.{is_some}
+use Rattle.types.specs.Columns.{found, listed}
+use Rattle.types.specs.declared.Known.{Known}
 use lib.ListN.{set}
 use lib.Seq.{set_out}
 use Rattle.elements.proofs.Stood.{stood_value, stood_end, stood_refused}
 use Rattle.elements.specs.Elements.{Head, Value, head_at}
-use Rattle.types.proofs.Columns.{columns_only}
+use Rattle.types.proofs.Columns.{found_unlisted}
 use Rattle.elements.proofs.Laws.{head_at-fits}
 use Rattle.rows.proofs.Ways.{elem_unlisted, top_ends, top_bad, top_goes}
 use Rattle.rows.proofs.test_element.Goals as goal
@@ -19,19 +22,24 @@ fits msg at e b = (head_at-fits msg at (length msg) (sym e ∙ b)).1
 uncounted : (t : List ℕ) (list count : ℕ) → length t ≡ 8 → 8 ≤ list → t ≡ set t list count
 uncounted t list count e h = sym (set_out t list count (omega arith))
 
+-- an answer that is none
+missed : (o : Option Known) (u : Known) → is_some o ≡ false → found o ≡ found (listed u) → found None ≡ found (listed u)
+missed None u h e = e
+missed (Some k) u h e = absurd (cc)
+
 pub bounds-message-at : goal.bounds-message-at
 bounds-message-at c = omega (arith, fits _ _ c.read_head.ensures (stood_value c.in-Ok-Some.is c.in-Ok-Some.field-0-is))
 
 pub overflow_add-result : goal.overflow_add-result
 overflow_add-result c = omega (arith, fits _ _ c.read_head.ensures (stood_value c.in-Ok-Some.is c.in-Ok-Some.field-0-is))
 
-pub overflow_add-result-then-place-eq-UNLISTED : goal.overflow_add-result-then-place-eq-UNLISTED
-overflow_add-result-then-place-eq-UNLISTED c = omega (arith, fits _ _ c.read_head.ensures (stood_value c.in-Ok-Some.is c.in-Ok-Some.field-0-is))
+pub overflow_add-result-then-is_none : goal.overflow_add-result-then-is_none
+overflow_add-result-then-is_none c = omega (arith, fits _ _ c.read_head.ensures (stood_value c.in-Ok-Some.is c.in-Ok-Some.field-0-is))
 
 -- the type is not listed
-pub returns-then-place-eq-UNLISTED : goal.returns-then-place-eq-UNLISTED
-returns-then-place-eq-UNLISTED c =
-    top_goes _ _ _ c.read_head.ensures (stood_value c.in-Ok-Some.is c.in-Ok-Some.field-0-is) (elem_unlisted _ _ _ _ _ (columns_only _ _ c.find_type-known.ensures) c.if-place-eq-UNLISTED.true)
+pub returns-then-is_none : goal.returns-then-is_none
+returns-then-is_none c =
+    top_goes _ _ _ c.read_head.ensures (stood_value c.in-Ok-Some.is c.in-Ok-Some.field-0-is) (elem_unlisted _ _ _ _ _ (found_unlisted _ (missed _ _ (c.is_none.ensures ∙ ap not c.if-is_none.true) c.find_type.ensures)))
     (uncounted _ 8 0 (search rules) (omega arith))
 
 pub element-step-requires : goal.element-step-requires

@@ -1,13 +1,12 @@
--- `types::known_at` gives what the table says at a place. That its two arrays are those columns of the table is computed.
+-- `types::known_at` gives what the table says at a place. That the array is the table is computed.
 -- Trusts: nothing.
-use borrow.Author.Rules.{rules}
-use mathlib.Core.Bool.{false}
-use Rattle.types.proofs.LawsTypes.{lines, column_at}
-use Rattle.types.proofs.LawsColumns.{known-at}
+use mathlib.Core.Path.{ap}
+use Rattle.types.specs.Places.{known_at}
+use Rattle.types.specs.declared.TypeLine.{TypeLine}
+use Rattle.types.proofs.LawsTypes.{lines}
+use Rattle.types.proofs.LawsColumns.{code_line}
 use Rattle.types.proofs.known_at.Goals as goal
 
 pub returns : goal.returns
-unfolding lines
-returns c =
-    let h = c.requires.0 in
-    known-at _ h c.requires.1 (column_at _ h (λ l. l.repeats) false) c.values_at-values.ensures (column_at _ h (λ l. l.room) 0) c.requires.2
+unfolding lines known_at
+returns c = ap (λ (l : TypeLine). l.known) (code_line _ c.requires _)
