@@ -20,8 +20,8 @@ use Rattle.types.specs.declared.Known.{Known}
 use Rattle.element_tests.specs.Tests.{stepped, second_copy, wrong_length, bad_value, is_full, own_tests}
 use Rattle.rows.specs.Tests.{is_row}
 use Rattle.rows.specs.Rows.{element_with, noted}
-use Rattle.element_tests.specs.declared.Step.{Step}
-use Rattle.rows.specs.declared.Fault.{Fault}
+use Rattle.element_tests.specs.Tests.{Step}
+use Rattle.rows.specs.Tests.{Fault}
 use Rattle.children.specs.Rows.{type_at}
 
 module _ (msg : List ℕ) (known : Known) (at len count : ℕ) where

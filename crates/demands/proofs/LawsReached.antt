@@ -22,7 +22,7 @@ use Rattle.children.specs.Rows.{Row, done, item, row_with, row_from, row_in, row
 use Rattle.rows.specs.Tests.{none_counted, empty_tally}
 use Rattle.rows.specs.Rows.{tested_at}
 use Rattle.rows.specs.declared.Tally.{Tally}
-use Rattle.rows.specs.declared.Tested.{Tested}
+use Rattle.rows.specs.Rows.{Tested}
 use Rattle.rows.proofs.Laws.{tested_at-placed}
 use Rattle.named.specs.Named.{unanswered, named_place, placed, lone_number}
 use Rattle.named.specs.declared.Found.{Found}

@@ -19,8 +19,8 @@ use Rattle.rows.specs.Tests.{is_row, row_end, none_counted}
 use Rattle.rows.specs.Rows as rows
 use Rattle.rows.specs.Rows.{element_with, noted, go_on, on_head, row_step, row_of, element_of, tested_at}
 use Rattle.rows.specs.declared.Tally.{Tally}
-use Rattle.element_tests.specs.declared.Step.{Step}
-use Rattle.rows.specs.declared.Fault.{Fault}
+use Rattle.element_tests.specs.Tests.{Step}
+use Rattle.rows.specs.Tests.{Fault}
 use Rattle.children.specs.Rows.{row_with, row_from, row_in, row_inside, type_at, places_of}
 use Rattle.demands.proofs.LawsCount.{Passed, element-passed, Repeats, turn_room}
 

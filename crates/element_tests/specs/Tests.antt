@@ -13,9 +13,14 @@ use Rattle.types.specs.declared.Length.TheVariants.{Row, Bytes, NoneOr, OrMore}
 use Rattle.types.specs.declared.Values.{Values}
 use Rattle.types.specs.declared.Values.TheVariants.{Any, NotZero, Channel}
 use Rattle.types.specs.declared.Known.{Known}
-use Rattle.element_tests.specs.declared.Step.{Step}
 
 -- what an element comes to: a refusal number, or 0; where; and the count of one list of its row
+pub record Step : Type 0 where
+  pub bad : ℕ
+  pub off : ℕ
+  pub list : ℕ
+  pub count : ℕ
+
 abbrev pub stepped : ℕ → ℕ → ℕ → ℕ → Step
 stepped bad at list count = record { bad = bad; off = at; list = list; count = count }
 

@@ -7,19 +7,11 @@
 
 ghost use Rattle.std.specs.Prelude.{◌≡◌, ℕ, ◌+◌};
 ghost use Rattle.numbers.specs.Numbers.{number_at};
+ghost use Rattle.element_tests.specs.Stepped.{step_of};
 ghost use Rattle.element_tests.specs.Tests.{second_copy, wrong_length, no_channel, bad_value, is_full, own_tests};
 
+use refusals::Refusal;
 use types::{Known, Length, Values};
-
-// What an element comes to: 0, or a refusal number and its offset; and the list that it is counted in, with the
-// count after it.
-#[derive(Clone, Copy)]
-pub struct Step {
-    pub bad: u8,
-    pub off: usize,
-    pub list: usize,
-    pub count: u8,
-}
 
 // Test 9.
 fn second_copy(repeats: bool, count: u8) -> bool
@@ -44,26 +36,14 @@ fn wrong_length(allowed: Length, len: usize) -> bool
 pub fn no_channel(hertz: u32) -> bool
     ensures { result ≡ no_channel hertz }
 {
-    if hertz < 62500 {
-        return true;
-    }
-    if 1000000000 < hertz {
-        return true;
-    }
-    hertz % 62500 != 0
+    hertz < 62500 || 1000000000 < hertz || hertz % 62500 != 0
 }
 
-// Where the value of the element at `at` begins; the end where no head stands there.
+// Where the value of the element at `at` begins; the message's end where that is sooner.
 fn value_place(message: &[u8], at: usize) -> usize
     ensures { (w : ℕ) → number_at w message.now result ≡ number_at w message.now (at + 2) }
 {
-    let end = message.len();
-    if at < end {
-        if 2 <= end - at {
-            return at + 2;
-        }
-    }
-    end
+    at.saturating_add(2).min(message.len())
 }
 
 // Test 11.
@@ -84,53 +64,32 @@ fn is_full(repeats: bool, room: u8, count: u8, len: usize) -> bool
     if repeats {
         room <= count
     } else {
-        (room as usize) < len
+        usize::from(room) < len
     }
 }
 
-// Tests 9 to 12 of an element of a known type, of whose list `count` elements stand before it, and its count.
-pub fn own_tests(message: &[u8], known: Known, at: usize, len: usize, count: u8) -> Step
-    ensures { result ≡ own_tests message.now known at len count }
+// Tests 9 to 12 of an element of a known type, of whose list `count` elements stand before it: the first of them that it fails,
+// in the order of their numbers, or the count after it.
+pub fn own_tests(
+    message: &[u8],
+    known: Known,
+    at: usize,
+    len: usize,
+    count: u8,
+) -> Result<u8, Refusal>
+    ensures { step_of at known.list count result ≡ own_tests message.now known at len count }
 {
-    let list = known.list;
     if second_copy(known.repeats, count) {
-        return Step {
-            bad: 9,
-            off: at,
-            list,
-            count,
-        };
+        return Err(Refusal::SecondCopy);
     }
-    let lengths = known.length;
-    if wrong_length(lengths, len) {
-        return Step {
-            bad: 10,
-            off: at,
-            list,
-            count,
-        };
+    if wrong_length(known.length, len) {
+        return Err(Refusal::WrongLength);
     }
-    let values = known.values;
-    if bad_value(message, values, at, len) {
-        return Step {
-            bad: 11,
-            off: at,
-            list,
-            count,
-        };
+    if bad_value(message, known.values, at, len) {
+        return Err(Refusal::BadValue);
     }
     if is_full(known.repeats, known.room, count, len) {
-        return Step {
-            bad: 12,
-            off: at,
-            list,
-            count,
-        };
+        return Err(Refusal::Full);
     }
-    Step {
-        bad: 0,
-        off: at,
-        list,
-        count: count + 1,
-    }
+    Ok(count + 1)
 }

@@ -17,7 +17,7 @@ use Rattle.table.specs.declared.Table.{Table}
 use Rattle.rows.specs.Tests.{empty_tally}
 use Rattle.rows.specs.Rows.{tested_at}
 use Rattle.rows.specs.declared.Tally.{Tally}
-use Rattle.rows.specs.declared.Tested.{Tested}
+use Rattle.rows.specs.Rows.{Tested}
 use Rattle.children.specs.Rows.{Row, done, item, row_in}
 use Rattle.named.specs.Named.{unanswered, lone_number}
 use Rattle.named.specs.declared.Found.TheVariants.{Nothing}

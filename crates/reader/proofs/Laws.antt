@@ -21,7 +21,7 @@ use Rattle.children.specs.Rows.{Row, done, bad, item, row_from, row_in, row_fold
 use Rattle.rows.specs.Tests.{empty_tally}
 use Rattle.rows.specs.Rows.{tested_at}
 use Rattle.rows.specs.declared.Tally.{Tally}
-use Rattle.rows.specs.declared.Tested.{Tested}
+use Rattle.rows.specs.Rows.{Tested}
 use Rattle.rows.proofs.Laws.{tested_at-placed}
 use Rattle.named.specs.Named.{unanswered, lone_number}
 use Rattle.named.specs.declared.Found.TheVariants.{Nothing}

@@ -18,7 +18,7 @@ use Rattle.children.specs.Rows.{type_at}
 use Rattle.rules.specs.Rules.{rule_at}
 use Rattle.classifiers.specs.Classifiers.{classifier_at}
 use Rattle.configurations.specs.Configurations.{configuration_at}
-use Rattle.rows.specs.declared.Tested.{Tested}
+use Rattle.rows.specs.Rows.{Tested}
 use Rattle.reader.specs.Take.{with_configuration}
 use Rattle.reader.specs.Steps.{PlaceFor, judged_as, kind_of}
 use Rattle.reader.proofs.LawsRead.{is_taken_rule, is_taken_classifier, is_taken_configuration, is_taken_other}

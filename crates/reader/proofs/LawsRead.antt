@@ -26,7 +26,7 @@ use Rattle.configurations.specs.declared.Configuration.{Configuration}
 use Rattle.children.proofs.Laws.{row_in_rule}
 use Rattle.rows.specs.Rows.{tested_at}
 use Rattle.rows.specs.declared.Tally.{Tally}
-use Rattle.rows.specs.declared.Tested.{Tested}
+use Rattle.rows.specs.Rows.{Tested}
 use Rattle.listed.specs.Listed.{is_listed}
 use Rattle.named.specs.Named.{classifier_numbers, lone_number}
 use Rattle.reader.specs.Take.{with_rule, with_classifier, with_configuration, with_element, rule_numbers, is_taken}

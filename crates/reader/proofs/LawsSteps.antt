@@ -16,7 +16,7 @@ use lib.ListN.{length, take, set}
 use Rattle.table.specs.declared.Table.{Table}
 use Rattle.configurations.specs.Configurations.{configuration_at}
 use Rattle.configurations.specs.declared.Configuration.{Configuration}
-use Rattle.rows.specs.declared.Tested.{Tested}
+use Rattle.rows.specs.Rows.{Tested}
 use Rattle.listed.specs.Listed.{is_listed}
 use Rattle.named.specs.Named.{lone_number}
 use Rattle.named.specs.declared.Lone.{Lone}

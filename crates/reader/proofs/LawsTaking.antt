@@ -18,7 +18,7 @@ use Rattle.children.specs.Rows.{row_in}
 use Rattle.configurations.specs.Configurations.{empty_configuration, configuration_at}
 use Rattle.children.proofs.Laws.{row_inside-done}
 use Rattle.rows.specs.declared.Tally.{Tally}
-use Rattle.rows.specs.declared.Tested.{Tested}
+use Rattle.rows.specs.Rows.{Tested}
 use Rattle.reader.specs.Take.{with_configuration}
 use Rattle.reader.specs.Read.{refusal, read_row}
 use Rattle.reader.specs.Steps.{none_tested, GoesOn, read_all, TakesUp}

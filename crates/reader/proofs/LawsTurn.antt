@@ -16,7 +16,7 @@ use lib.ListN.{length, take}
 use lib.Dec.{eqb}
 use Rattle.table.specs.declared.Table.{Table}
 use Rattle.rows.specs.Rows.{tested_at}
-use Rattle.rows.specs.declared.Tested.{Tested}
+use Rattle.rows.specs.Rows.{Tested}
 use Rattle.listed.specs.Listed.{is_listed}
 use Rattle.reader.specs.Take.{with_element, is_taken}
 use Rattle.reader.specs.Steps.{PlaceFor, judged_as, GoesOn}

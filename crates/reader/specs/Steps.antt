@@ -18,7 +18,7 @@ use Rattle.table.specs.Table.{empty_table}
 use Rattle.table.specs.declared.Table.{Table}
 use Rattle.children.specs.Rows.{row_in, type_at}
 use Rattle.rows.specs.Tests.{empty_tally}
-use Rattle.rows.specs.declared.Tested.{Tested}
+use Rattle.rows.specs.Rows.{Tested}
 use Rattle.configurations.specs.Configurations.{configuration_at}
 use Rattle.listed.specs.Listed.{is_listed}
 use Rattle.named.specs.Named.{lone_number}

@@ -16,7 +16,7 @@ use Rattle.element_tests.specs.Tests.{second_copy, wrong_length, no_channel, bad
 use Rattle.rows.specs.Tests.{is_row, row_end, empty_tally}
 use Rattle.rows.specs.Rows.{element_with, row_step, row_from, row_of, element_of, tested_at}
 use Rattle.rows.specs.declared.Tally.{Tally}
-use Rattle.rows.specs.declared.Tested.{Tested}
+use Rattle.rows.specs.Rows.{Tested}
 
 abbrev pub says : Tested → ℕ × ℕ
 says r = (r.bad, r.off)

@@ -25,8 +25,8 @@ use Rattle.element_tests.specs.Tests.{stepped, second_copy, wrong_length, bad_va
 use Rattle.rows.specs.Tests.{is_row}
 use Rattle.rows.specs.Rows.{element_with, noted, element_of, tested, tested_at}
 use Rattle.rows.specs.declared.Tally.{Tally}
-use Rattle.element_tests.specs.declared.Step.{Step}
-use Rattle.rows.specs.declared.Fault.{Fault}
+use Rattle.element_tests.specs.Tests.{Step}
+use Rattle.rows.specs.Tests.{Fault}
 use Rattle.rows.proofs.Placed.{Placed, own_by, element_by, element_of-placed}
 
 -- ---- what an element passed

@@ -5,3 +5,4 @@ pub mod Ways
 pub mod Placed
 pub mod Laws
 pub mod Bench
+pub mod Told

@@ -19,8 +19,8 @@ use Rattle.types.specs.declared.Known.{Known}
 use Rattle.element_tests.specs.Tests.{stepped, second_copy, wrong_length, bad_value, is_full, own_tests}
 use Rattle.rows.specs.Tests.{is_row, row_end, none_counted}
 use Rattle.rows.specs.Rows.{element_with, noted, go_on, on_head, row_step, row_from, row_of, element_of}
-use Rattle.element_tests.specs.declared.Step.{Step}
-use Rattle.rows.specs.declared.Fault.{Fault}
+use Rattle.element_tests.specs.Tests.{Step}
+use Rattle.rows.specs.Tests.{Fault}
 
 -- tests 9, 10, 11 and 12 of an element, in this order
 abbrev pub own_by : (at list count : ℕ) (a b c d : Bool) → Step

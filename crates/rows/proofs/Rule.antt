@@ -10,8 +10,8 @@ use Rattle.elements.specs.Elements.{Head, End, Refused, Value, head_at}
 use Rattle.elements.proofs.Laws.{head_at-end, head_at-fits}
 use Rattle.rows.specs.Tests.{row_end, none_counted}
 use Rattle.rows.specs.Rows.{element_with, noted, go_on, on_head, row_step, row_from, row_of}
-use Rattle.element_tests.specs.declared.Step.{Step}
-use Rattle.rows.specs.declared.Fault.{Fault}
+use Rattle.element_tests.specs.Tests.{Step}
+use Rattle.rows.specs.Tests.{Fault}
 
 -- what a step does with the value that a head announces
 abbrev turn : (ℕ → ℕ → ℕ → ℕ → List ℕ → Fault) → List ℕ → ℕ → ℕ → ℕ → ℕ → List ℕ → ℕ → Fault

@@ -1,6 +1,6 @@
 -- What the rule says on each way through the code of `element`, `row_from` and `test_element`: one law for each return and for the turn of the loop.
 -- Trusts: nothing.
-use mathlib.Core.Path.{◌≡◌, sym, ◌∙◌}
+use mathlib.Core.Path.{◌≡◌, sym, ap, ◌∙◌}
 use mathlib.Core.Bool.{Bool, true, false}
 use mathlib.Core.List.{List}
 use Prim.Native.Nat.{ℕ, ◌+◌}
@@ -12,10 +12,14 @@ use Rattle.types.specs.declared.Known.{Known}
 use Rattle.element_tests.specs.Tests.{stepped, own_tests}
 use Rattle.rows.specs.Tests.{is_row, row_end, none_counted}
 use Rattle.rows.specs.Rows.{element_with, element_of, noted, row_step, row_of, tested_at}
+use Rattle.rows.specs.Told.{fault_of, fault_in, on, refused, went, went_of}
+use Rattle.rows.proofs.Told.{fault_bad}
 use Rattle.rows.proofs.Rule.{row-rule}
+use Rattle.refusals.specs.declared.Fault.{Fault as Refusing}
+use Rattle.std.proofs.Common.{Err}
 use Rattle.rows.specs.declared.Tally.{Tally}
-use Rattle.element_tests.specs.declared.Step.{Step}
-use Rattle.rows.specs.declared.Fault.{Fault}
+use Rattle.element_tests.specs.Tests.{Step}
+use Rattle.rows.specs.Tests.{Fault}
 
 module _ (msg : List ℕ) (parent own at end : ℕ) (t : List ℕ) {h : Head} (e : h ≡ head_at msg at end) where
   pub row_ends : {f : Fault} → h ≡ End → f ≡ row_end parent own t → f ≡ row_of msg parent own at end t
@@ -27,9 +31,9 @@ module _ (msg : List ℕ) (parent own at end : ℕ) (t : List ℕ) {h : Head} (e
   row-bad b = sym (row-rule msg parent own at end t ∙ simp (← e, b))
 
   module _ {len : ℕ} {s : Step} (b : h ≡ Value len) (x : s ≡ element_of msg parent at len t) where
-    pub row-stops : (s.bad ≡ 0 → ⊥) → ◌≡◌ {A = Fault} (record { bad = s.bad; off = s.off }) (row_of msg parent own at end t)
-    unfolding row_step element_of
-    row-stops z = sym (row-rule msg parent own at end t ∙ simp (← e, b, ← x, ne_eqb _ _ z))
+    pub row-stops : (f : Refusing) → fault_of at (Err f) ≡ fault_in s → fault_of own (Err f) ≡ row_of msg parent own at end t
+    unfolding row_step element_of fault_of
+    row-stops f z = z ∙ sym (row-rule msg parent own at end t ∙ simp (← e, b, ← x, ne_eqb _ _ (fault_bad at f z)))
 
     pub row_goes : {u : List ℕ} → s.bad ≡ 0 → u ≡ noted t s → row_of msg parent own (at + 2 + len) end u ≡ row_of msg parent own at end t
     unfolding row_step element_of
@@ -66,15 +70,24 @@ module _ (msg : List ℕ) (parent at len : ℕ) (t : List ℕ) where
         elem_row z = simp (← o.typed, ne_eqb _ _ o.listed, ← o.tests, eq-eqb _ _ b, ← i, y, ← x, eq-eqb _ _ z)
 
 module _ (msg : List ℕ) (at : ℕ) (t : Tally) {h : Head} (e : h ≡ head_at msg at (length msg)) where
-  pub top_ends : h ≡ End → record { bad = 0; off = at; next = at; tally = t } ≡ tested_at msg at t
-  unfolding tested_at
-  top_ends b = simp (← e, b)
+  pub top_ends : h ≡ End → on at t ≡ went_of (tested_at msg at t)
+  unfolding tested_at went_of
+  top_ends b = sym (simp (← e, b))
 
-  pub top_bad : {n : ℕ} → h ≡ Refused n → record { bad = n; off = at; next = at; tally = t } ≡ tested_at msg at t
-  unfolding tested_at
-  top_bad b = simp (← e, b)
+  pub top_bad : {n : ℕ} → h ≡ Refused n → (n ≡ 0 → ⊥) → refused n at ≡ went_of (tested_at msg at t)
+  unfolding tested_at went_of
+  top_bad b z = sym (simp (← e, b, ne_eqb _ _ z))
 
-  pub top_goes : {len : ℕ} {s : Step} {u : Tally} → h ≡ Value len → s ≡ element_of msg 26 at len t.counts → u.counts ≡ noted t.counts s
-      → record { bad = s.bad; off = s.off; next = at + 2 + len; tally = u } ≡ tested_at msg at t
-  unfolding tested_at
-  top_goes b x q = simp (← e, b, ← x, ← q)
+  module _ {len : ℕ} (b : h ≡ Value len) {s : Step} (x : s ≡ element_of msg 26 at len t.counts) where
+    top_goes : tested_at msg at t ≡ record { bad = s.bad; off = s.off; next = at + 2 + len; tally = record { counts = noted t.counts s } }
+    unfolding tested_at
+    top_goes = simp (← e, b, ← x)
+
+    pub top_passed : {u : Tally} → s.bad ≡ 0 → u.counts ≡ noted t.counts s → on (at + 2 + len) u ≡ went_of (tested_at msg at t)
+    unfolding went_of
+    top_passed z q = sym (simp (top_goes, eq-eqb _ _ z, ← q))
+
+    pub top_refused : (f : Refusing) → fault_of at (Err f) ≡ fault_in s → went (Err f) ≡ went_of (tested_at msg at t)
+    unfolding went went_of fault_of
+    top_refused f z =
+        ap (λ (g : Fault). refused g.bad g.off) z ∙ sym (simp (top_goes, ne_eqb _ _ (fault_bad at f z)))

@@ -10,12 +10,9 @@
 use Rattle.std.specs.Prelude.{ℕ, zero, suc, ◌+◌, ◌-◌, cond, not, List, length, get_or, set, eqb}
 use Rattle.elements.specs.Elements.{Head, End, Refused, Value, head_at}
 use Rattle.types.specs.Places.{type_under}
-use Rattle.element_tests.specs.Tests.{stepped, own_tests}
-use Rattle.rows.specs.Tests.{is_row, row_end, none_counted}
+use Rattle.element_tests.specs.Tests.{Step, stepped, own_tests}
+use Rattle.rows.specs.Tests.{Fault, is_row, row_end, none_counted}
 use Rattle.rows.specs.declared.Tally.{Tally}
-use Rattle.element_tests.specs.declared.Step.{Step}
-use Rattle.rows.specs.declared.Fault.{Fault}
-use Rattle.rows.specs.declared.Tested.{Tested}
 
 -- An element. A type not listed in the row is skipped; a listed one has its own tests, and then, where its value is a row, that
 -- row is read: `inside k` reads the value as the row of the type at place k.
@@ -63,6 +60,13 @@ row_of msg parent own at end counts = row_from (end - at) msg parent own at end 
 unfoldable pub element_of : List ℕ → ℕ → ℕ → ℕ → List ℕ → Step
 element_of msg parent at len counts =
     element_with (λ k. row_of msg k at (at + 2) (at + 2 + len) none_counted) msg parent at len counts
+
+-- what a top-level element comes to: a refusal number, or 0; where; and the place and the tally after it
+pub record Tested : Type 0 where
+  pub bad : ℕ
+  pub off : ℕ
+  pub next : ℕ
+  pub tally : Tally
 
 abbrev pub tested : Head → ℕ → Tally → (ℕ → Step) → Tested
 tested End at t step = record { bad = 0; off = at; next = at; tally = t }

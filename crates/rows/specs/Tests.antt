@@ -12,7 +12,11 @@ use Rattle.musts.specs.Musts.{lacks_must}
 use Rattle.types.specs.declared.Length.{Length}
 use Rattle.types.specs.declared.Length.TheVariants.{Row, Bytes, NoneOr, OrMore}
 use Rattle.rows.specs.declared.Tally.{Tally}
-use Rattle.rows.specs.declared.Fault.{Fault}
+
+-- what a row comes to: a refusal number, or 0; and where
+pub record Fault : Type 0 where
+  pub bad : ℕ
+  pub off : ℕ
 
 unfoldable pub is_row : Length → Bool
 is_row Row = true

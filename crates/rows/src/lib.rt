@@ -11,9 +11,10 @@
 
 ghost use Rattle.std.specs.Prelude.{◌≡◌, ◌+◌, ◌≤◌, ◌<◌, length};
 ghost use Rattle.rows.specs.Tests.{is_row, row_end, none_counted, empty_tally};
-ghost use Rattle.rows.specs.Rows.{element_of, row_of, tested_at};
+ghost use Rattle.rows.specs.Rows.{element_of, row_of, noted, tested_at};
+ghost use Rattle.rows.specs.Told.{fault_of, fault_in, went, went_of};
 
-use element_tests::Step;
+use refusals::{Fault, Refusal};
 use types::Length;
 
 // How many elements of each list stand before this one in its row. A type's list has a number in its row.
@@ -22,22 +23,10 @@ pub struct Tally {
     pub counts: [u8; 8],
 }
 
-// The list of an element that is not counted: a row has eight lists at most.
-const NO_LIST: usize = 8;
-
-// What a row comes to: 0, or a refusal number and its offset.
+// What stands after a top-level element: the place of the next, and the tally.
 #[derive(Clone, Copy)]
-pub struct Fault {
-    pub bad: u8,
-    pub off: usize,
-}
-
-// What a top-level element comes to. `next` is the place after it, or its own where its head is refused.
-#[derive(Clone, Copy)]
-pub struct Tested {
-    pub bad: u8,
-    pub off: usize,
-    pub next: usize,
+pub struct Next {
+    pub place: usize,
     pub tally: Tally,
 }
 
@@ -45,12 +34,7 @@ pub struct Tested {
 fn is_row(allowed: Length) -> bool
     ensures { result ≡ is_row allowed }
 {
-    match allowed {
-        Length::Row => true,
-        Length::Bytes(_) => false,
-        Length::NoneOr(_) => false,
-        Length::OrMore(_) => false,
-    }
+    matches!(allowed, Length::Row)
 }
 
 // The tally of a row that begins.
@@ -61,56 +45,56 @@ pub fn empty_tally() -> Tally
 }
 
 // The end of a row: test 13, at the row's own type byte.
-fn row_end(parent: usize, own: usize, counts: &[u8; 8]) -> Fault
-    ensures { result ≡ row_end parent own counts.now }
+fn row_end(parent: usize, own: usize, counts: &[u8; 8]) -> Result<(), Fault>
+    ensures { fault_of own result ≡ row_end parent own counts.now }
 {
     if musts::lacks_must(parent, counts) {
-        return Fault { bad: 13, off: own };
+        return Err(Fault {
+            refusal: Refusal::MissingElement,
+            offset: own,
+        });
     }
-    Fault { bad: 0, off: own }
+    Ok(())
 }
 
 // The element reader. The element at `at` in the row `parent`, with a value of `len` bytes, after those that
-// `counts` counts: its own tests, and where its value is a row, that row.
+// `counts` counts: where it is listed, its own tests, and where its value is a row, that row; then it is counted.
 #[cycle(element_row_from)]
-fn element(message: &[u8], parent: usize, at: usize, len: usize, counts: &[u8; 8]) -> Step
+fn element(
+    message: &[u8],
+    parent: usize,
+    at: usize,
+    len: usize,
+    counts: &mut [u8; 8],
+) -> Result<(), Fault>
     requires { at + 2 + len ≤ length message.now }
-    ensures { result ≡ element_of message.now parent at len counts.now }
+    ensures fault { fault_of at result ≡ fault_in (element_of message.now parent at len counts.old) }
+    ensures counted { counts.new ≡ noted counts.old (element_of message.now parent at len counts.old) }
 {
     let Some(known) = types::find_type(parent, message[at]) else {
-        return Step {
-            bad: 0,
-            off: at,
-            list: NO_LIST,
-            count: 0,
-        };
+        return Ok(());
     };
     let list = known.list;
-    let count = counts[list];
-    let own = element_tests::own_tests(message, known, at, len, count);
-    if own.bad != 0 {
-        return own;
+    let count = match element_tests::own_tests(message, known, at, len, counts[list]) {
+        Ok(count) => count,
+        Err(refusal) => {
+            return Err(Fault {
+                refusal,
+                offset: at,
+            });
+        }
+    };
+    if is_row(known.length) {
+        row_from(message, known.place, at, at + 2, at + 2 + len)?;
     }
-    let lengths = known.length;
-    if !is_row(lengths) {
-        return own;
-    }
-    let inner = row_from(message, known.place, at, at + 2, at + 2 + len);
-    if inner.bad != 0 {
-        return Step {
-            bad: inner.bad,
-            off: inner.off,
-            list,
-            count,
-        };
-    }
-    own
+    counts[list] = count;
+    Ok(())
 }
 
 // The row reader. The row `parent`, whose own type byte is at `own`, from `from` to `end`.
 #[cycle(element_row_from)]
-fn row_from(message: &[u8], parent: usize, own: usize, from: usize, end: usize) -> Fault
-    ensures { result ≡ row_of message.now parent own from end none_counted }
+fn row_from(message: &[u8], parent: usize, own: usize, from: usize, end: usize) -> Result<(), Fault>
+    ensures { fault_of own result ≡ row_of message.now parent own from end none_counted }
 {
     let mut at = from;
     let mut counts = [0u8; 8];
@@ -120,75 +104,39 @@ fn row_from(message: &[u8], parent: usize, own: usize, from: usize, end: usize) 
                 return row_end(parent, own, &counts);
             }
             Err(refusal) => {
-                return Fault {
-                    bad: refusal.number(),
-                    off: at,
-                };
+                return Err(Fault {
+                    refusal,
+                    offset: at,
+                });
             }
             Ok(Some(len)) => {
-                let step = element(message, parent, at, len, &counts);
-                if step.bad != 0 {
-                    return Fault {
-                        bad: step.bad,
-                        off: step.off,
-                    };
-                }
-                let list = step.list;
-                if list < NO_LIST {
-                    counts[list] = step.count;
-                }
+                element(message, parent, at, len, &mut counts)?;
                 at = at + 2 + len;
             }
         }
     }
 }
 
-// The top-level element at `at`, after those that `tally` counts: the first refusal of 6 to 13 in it, or 0.
-// Past the last element the answer is 0 and nothing changes.
-pub fn test_element(message: &[u8], at: usize, tally: Tally) -> Tested
-    ensures { result ≡ tested_at message.now at tally }
+// The top-level element at `at`, after those that `tally` counts: the first refusal of 6 to 13 in it, or what stands
+// after it. Past the last element nothing is refused and nothing changes. An element that is not listed costs no call.
+pub fn test_element(message: &[u8], at: usize, tally: Tally) -> Result<Next, Fault>
+    ensures { went result ≡ went_of (tested_at message.now at tally) }
 {
     match elements::read_head(message, at, message.len()) {
-        Ok(None) => Tested {
-            bad: 0,
-            off: at,
-            next: at,
-            tally,
-        },
-        Err(refusal) => Tested {
-            bad: refusal.number(),
-            off: at,
-            next: at,
-            tally,
-        },
+        Ok(None) => Ok(Next { place: at, tally }),
+        Err(refusal) => Err(Fault {
+            refusal,
+            offset: at,
+        }),
         Ok(Some(len)) => {
-            if types::find_type(types::TOP_LEVEL, message[at]).is_none() {
-                return Tested {
-                    bad: 0,
-                    off: at,
-                    next: at + 2 + len,
-                    tally,
-                };
+            let mut after = tally;
+            if types::find_type(types::TOP_LEVEL, message[at]).is_some() {
+                element(message, types::TOP_LEVEL, at, len, &mut after.counts)?;
             }
-            let counts = tally.counts;
-            let step = element(message, types::TOP_LEVEL, at, len, &counts);
-            let list = step.list;
-            if list < NO_LIST {
-                let mut after = tally;
-                after.counts[list] = step.count;
-                return Tested {
-                    bad: step.bad,
-                    off: step.off,
-                    next: at + 2 + len,
-                    tally: after,
-                };
-            }
-            Tested {
-                bad: step.bad,
-                off: step.off,
-                next: at + 2 + len,
-                tally,
-            }
+            Ok(Next {
+                place: at + 2 + len,
+                tally: after,
+            })
         }
     }
 }

@@ -20,10 +20,10 @@ use Rattle.types.specs.Places.{type_under}
 use Rattle.types.specs.declared.Known.{Known}
 use Rattle.musts.specs.Musts.{lacks_must}
 use Rattle.element_tests.specs.Tests.{stepped, second_copy, wrong_length, bad_value, is_full, own_tests}
-use Rattle.element_tests.specs.declared.Step.{Step}
+use Rattle.element_tests.specs.Tests.{Step}
 use Rattle.rows.specs.Tests.{is_row, row_end, none_counted}
 use Rattle.rows.specs.Rows.{element_with, element_of, noted, go_on, on_head, row_step, row_of}
-use Rattle.rows.specs.declared.Fault.{Fault}
+use Rattle.rows.specs.Tests.{Fault}
 use Rattle.rows.proofs.Placed.{own_by, element_by}
 use Rattle.rows.proofs.Rule.{row-rule}
 use Rattle.children.specs.Rows.{row_in, row_fold}

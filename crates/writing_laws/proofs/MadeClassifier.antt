@@ -21,7 +21,7 @@ use Rattle.types.specs.Places.{type_under}
 use Rattle.types.specs.declared.Length.TheVariants.{Row, Bytes}
 use Rattle.types.specs.declared.Values.TheVariants.{Any, NotZero}
 use Rattle.element_tests.specs.Tests.{stepped, wrong_length, bad_value}
-use Rattle.element_tests.specs.declared.Step.{Step}
+use Rattle.element_tests.specs.Tests.{Step}
 use Rattle.rows.specs.Tests.{none_counted}
 use Rattle.rows.specs.Rows.{row_of, element_of, noted}
 use Rattle.types.specs.declared.Known.{Known}

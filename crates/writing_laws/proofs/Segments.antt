@@ -23,7 +23,7 @@ use Rattle.types.specs.declared.Length.TheVariants.{Bytes}
 use Rattle.types.specs.declared.Values.{Values}
 use Rattle.musts.specs.Musts.{lacks_must}
 use Rattle.element_tests.specs.Tests.{stepped, second_copy, wrong_length, bad_value, is_full, own_tests}
-use Rattle.element_tests.specs.declared.Step.{Step}
+use Rattle.element_tests.specs.Tests.{Step}
 use Rattle.rows.specs.Tests.{is_row, row_end, none_counted}
 use Rattle.rows.specs.Rows.{element_of, row_of}
 use Rattle.rows.proofs.Ways.{row_ends, row_goes, elem_leaf, elem_row}

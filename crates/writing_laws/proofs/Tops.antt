@@ -18,7 +18,7 @@ use Rattle.table.specs.declared.Table.{Table}
 use Rattle.children.specs.Rows.{row_in}
 use Rattle.rows.specs.Rows.{element_of, tested_at}
 use Rattle.rows.specs.declared.Tally.{Tally}
-use Rattle.rows.specs.declared.Tested.{Tested}
+use Rattle.rows.specs.Rows.{Tested}
 use Rattle.rows.proofs.Ways.{top_goes}
 use Rattle.listed.specs.Listed.{is_listed, is_distinct}
 use Rattle.listed.proofs.Laws.{listed_append}

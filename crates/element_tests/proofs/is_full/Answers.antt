@@ -9,4 +9,4 @@ returns-then-repeats c = simp c.if-repeats.true
 
 pub returns-else-repeats : goal.returns-else-repeats
 unfolding is_full
-returns-else-repeats c = simp c.if-repeats.false
+returns-else-repeats c = simp (c.if-repeats.false, c.from.ensures)

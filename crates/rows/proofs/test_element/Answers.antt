@@ -1,18 +1,24 @@
--- `rows::test_element` gives `tested_at`: one return for each answer of the head; for a whole head one where the type is not listed, one
--- where the element is counted and one where it is not.
+-- `rows::test_element` gives `tested_at`: one return for each answer of the head; for a whole head one where the element is refused and
+-- one where it is not, be it listed or skipped.
 -- Trusts: nothing.
-use Rattle.std.proofs.Common.{rules, arith, ◌≡◌, ◌+◌, ◌≤◌, List, ℕ, length, refl, sym, ap, ◌∙◌, Option, None, Some, false, not}
+use Rattle.std.proofs.Common.{rules, arith, ◌≡◌, ◌+◌, ◌≤◌, List, ℕ, length, refl, sym, ap, ◌∙◌, Option, None, Some, false}
+use Rattle.std.proofs.lemmas.Result.{err_from_is_err_and}
 use Rattle.std.specs.Option.{is_some}
-use Rattle.types.specs.Columns.{found, listed}
-use Rattle.types.specs.declared.Known.{Known}
 use lib.ListN.{set}
 use lib.Seq.{set_out}
-use Rattle.elements.proofs.Stood.{stood_value, stood_end, stood_refused}
+use Rattle.refusals.proofs.Only.{number_of-some}
 use Rattle.elements.specs.Elements.{Head, Value, head_at}
-use Rattle.types.proofs.Columns.{found_unlisted}
 use Rattle.elements.proofs.Laws.{head_at-fits}
-use Rattle.rows.proofs.Ways.{elem_unlisted, top_ends, top_bad, top_goes}
+use Rattle.elements.proofs.Stood.{stood_value, stood_end, stood_refused}
+use Rattle.types.specs.Columns.{found, listed}
+use Rattle.types.specs.declared.Known.{Known}
+use Rattle.types.proofs.Columns.{found_unlisted}
+use Rattle.rows.specs.Told.{went}
+use Rattle.rows.proofs.Told.{fault_fine}
+use Rattle.rows.proofs.Ways.{elem_unlisted, top_ends, top_bad, top_passed, top_refused}
+use Rattle.rows.specs.declared.Tally.{Tally}
 use Rattle.rows.proofs.test_element.Goals as goal
+use Rattle.rows.proofs.test_element.Goals.{then-is_some+in_ok-element-in-Ok-Some, else-is_some}
 
 -- the value that a whole head announces lies in the message
 fits : (msg : List ℕ) (at : ℕ) {h : Head} {len : ℕ} → h ≡ head_at msg at (length msg) → h ≡ Value len → at + 2 + len ≤ length msg
@@ -30,44 +36,39 @@ missed (Some k) u h e = absurd (cc)
 pub bounds-message-at : goal.bounds-message-at
 bounds-message-at c = omega (arith, fits _ _ c.read_head.ensures (stood_value c.in-Ok-Some.is c.in-Ok-Some.field-0-is))
 
+pub element-requires : goal.element-requires
+element-requires c = fits _ _ c.read_head.ensures (stood_value c.in-Ok-Some.is c.in-Ok-Some.field-0-is)
+
 pub overflow_add-result : goal.overflow_add-result
 overflow_add-result c = omega (arith, fits _ _ c.read_head.ensures (stood_value c.in-Ok-Some.is c.in-Ok-Some.field-0-is))
-
-pub overflow_add-result-then-is_none : goal.overflow_add-result-then-is_none
-overflow_add-result-then-is_none c = omega (arith, fits _ _ c.read_head.ensures (stood_value c.in-Ok-Some.is c.in-Ok-Some.field-0-is))
-
--- the type is not listed
-pub returns-then-is_none : goal.returns-then-is_none
-returns-then-is_none c =
-    top_goes _ _ _ c.read_head.ensures (stood_value c.in-Ok-Some.is c.in-Ok-Some.field-0-is) (elem_unlisted _ _ _ _ _ (found_unlisted _ (missed _ _ (c.is_none.ensures ∙ ap not c.if-is_none.true) c.find_type.ensures)))
-    (uncounted _ 8 0 (search rules) (omega arith))
-
-pub element-step-requires : goal.element-step-requires
-element-step-requires c = fits _ _ c.read_head.ensures (stood_value c.in-Ok-Some.is c.in-Ok-Some.field-0-is)
-
-pub overflow_add-result-then-list-lt-NO_LIST : goal.overflow_add-result-then-list-lt-NO_LIST
-overflow_add-result-then-list-lt-NO_LIST c = omega (arith, fits _ _ c.read_head.ensures (stood_value c.in-Ok-Some.is c.in-Ok-Some.field-0-is))
-
-pub overflow_add-result-then-list-lt-NO_LIST-2 : goal.overflow_add-result-then-list-lt-NO_LIST-2
-overflow_add-result-then-list-lt-NO_LIST-2 c = omega (arith, fits _ _ c.read_head.ensures (stood_value c.in-Ok-Some.is c.in-Ok-Some.field-0-is))
-
--- the element is counted
-pub returns-then-list-lt-NO_LIST : goal.returns-then-list-lt-NO_LIST
-returns-then-list-lt-NO_LIST c = top_goes _ _ _ c.read_head.ensures (stood_value c.in-Ok-Some.is c.in-Ok-Some.field-0-is) c.element-step.ensures refl
 
 pub overflow_add-result-in-Ok-Some : goal.overflow_add-result-in-Ok-Some
 overflow_add-result-in-Ok-Some c = omega (arith, fits _ _ c.read_head.ensures (stood_value c.in-Ok-Some.is c.in-Ok-Some.field-0-is))
 
-pub overflow_add-result-in-Ok-Some-2 : goal.overflow_add-result-in-Ok-Some-2
-overflow_add-result-in-Ok-Some-2 c = omega (arith, fits _ _ c.read_head.ensures (stood_value c.in-Ok-Some.is c.in-Ok-Some.field-0-is))
-
 pub returns-in-Ok-None : goal.returns-in-Ok-None
+unfolding went
 returns-in-Ok-None c = top_ends _ _ _ c.read_head.ensures (stood_end c.in-Ok-None.is c.in-Ok-None.field-0-is)
 
 pub returns-in-Err : goal.returns-in-Err
-returns-in-Err c = rw c.number.ensures (top_bad _ _ _ c.read_head.ensures (stood_refused c.in-Err.is))
+unfolding went
+returns-in-Err c = top_bad _ _ _ c.read_head.ensures (stood_refused c.in-Err.is) (number_of-some _)
 
--- it is not
-pub returns-else-list-lt-NO_LIST : goal.returns-else-list-lt-NO_LIST
-returns-else-list-lt-NO_LIST c =
-    top_goes _ _ _ c.read_head.ensures (stood_value c.in-Ok-Some.is c.in-Ok-Some.field-0-is) c.element-step.ensures (uncounted _ _ _ (search rules) c.if-list-lt-NO_LIST.false)
+pub returns-in_err-element-in-Ok-Some : goal.returns-in_err-element-in-Ok-Some
+returns-in_err-element-in-Ok-Some c =
+    let p = err_from_is_err_and c.from_residual.result c.from_residual.ensures.1 in
+    rw (p.1, p.2) (top_refused _ _ _ c.read_head.ensures (stood_value c.in-Ok-Some.is c.in-Ok-Some.field-0-is) refl _ c.in_err-element-in-Ok-Some.ensures.fault)
+
+pub returns-after-is_some : goal.returns-after-is_some
+unfolding went
+returns-after-is_some c =
+    elim c.if-is_some.branch [
+      | then-is_some+in_ok-element-in-Ok-Some w ↦
+          top_passed _ _ _ c.read_head.ensures (stood_value c.in-Ok-Some.is c.in-Ok-Some.field-0-is) refl
+          (fault_fine _ w.in_ok-element-in-Ok-Some.ensures.fault)
+          (ap (λ (t : Tally). t.counts) w.after-is ∙ w.in_ok-element-in-Ok-Some.ensures.counted)
+      | else-is_some w ↦
+          top_passed _ _ _ c.read_head.ensures (stood_value c.in-Ok-Some.is c.in-Ok-Some.field-0-is)
+          (elem_unlisted _ _ _ _ _ (found_unlisted _ (missed _ _ (sym c.is_some.ensures ∙ w.if-is_some.false) c.find_type.ensures)))
+          refl
+          (ap (λ (t : Tally). t.counts) w.after-is ∙ uncounted _ 8 0 (search rules) (omega arith))
+    ]
