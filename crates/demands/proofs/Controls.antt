@@ -21,7 +21,7 @@ use Rattle.table.specs.declared.Rule.{Rule}
 use Rattle.table.specs.declared.Table.{Table}
 use Rattle.table.specs.Table.{rules_of, clients_of, empty_client, empty_rule, empty_classifier, default_timers}
 use Rattle.reader.specs.Read.{number_of, read_table}
-use Rattle.reader.specs.declared.Reading.{Reading}
+use Rattle.reader.specs.Read.{Reading}
 use Rattle.reader.proofs.Controls as reader
 use Rattle.std.specs.Prelude.{None}
 use Rattle.choice.specs.Chose as choice

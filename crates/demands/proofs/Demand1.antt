@@ -41,7 +41,7 @@ use Rattle.rows.specs.Rows.{tested_at}
 use Rattle.rows.proofs.Laws.{tested_at-placed}
 use Rattle.reader.specs.Read.{read_table}
 use Rattle.reader.proofs.Laws as laws
-use Rattle.reader.specs.declared.Verdict.TheVariants as reading
+use Rattle.reader.specs.Read as reading
 use Rattle.notices.specs.Listing as listed
 use Rattle.notices.specs.Listing.{Listing, listing}
 

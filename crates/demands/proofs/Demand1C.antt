@@ -28,8 +28,8 @@ use Rattle.collection.specs.Record.{empty_collection}
 use Rattle.collection.specs.declared.Collection.{Collection}
 use Rattle.table.specs.declared.Table.{Table}
 use Rattle.reader.specs.Read.{number_of, offset_of, read_table}
-use Rattle.reader.specs.declared.Verdict.{Verdict}
-use Rattle.reader.specs.declared.Verdict.TheVariants as reading
+use Rattle.reader.specs.Read.{Verdict}
+use Rattle.reader.specs.Read as reading
 use Rattle.receiver.specs.Receive as told
 use Rattle.receiver.specs.Receive.{Told, Had, receive_step}
 use Rattle.notices.specs.Listing as listed

@@ -19,8 +19,8 @@ use Rattle.collector.specs.Step.{After, collect_step}
 use Rattle.collection.specs.declared.Collection.{Collection}
 use Rattle.table.specs.declared.Table.{Table}
 use Rattle.reader.specs.Read.{read_table}
-use Rattle.reader.specs.declared.Verdict.{Verdict}
-use Rattle.reader.specs.declared.Verdict.TheVariants as reading
+use Rattle.reader.specs.Read.{Verdict}
+use Rattle.reader.specs.Read as reading
 use Rattle.receiver.specs.Receive as told
 use Rattle.receiver.specs.Receive.{reported, taken, receive_step}
 use Rattle.demands.proofs.Demand1.{collect_step-refused, read_table-refused}

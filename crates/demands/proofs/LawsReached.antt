@@ -29,7 +29,7 @@ use Rattle.named.specs.declared.Found.{Found}
 use Rattle.named.specs.declared.Found.TheVariants.{Nothing, Number}
 use Rattle.reader.specs.Take.{with_element, is_taken}
 use Rattle.reader.specs.Read.{refusal, read_lone, read_row, read_table}
-use Rattle.reader.specs.declared.Verdict.TheVariants.{Refused as Refuses}
+use Rattle.reader.specs.Read.{Refused as Refuses}
 use Rattle.demands.proofs.LawsRoom.{named-room, classifier-room}
 use Rattle.demands.proofs.LawsStand.{named_places}
 

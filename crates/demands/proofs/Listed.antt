@@ -13,7 +13,7 @@ use Rattle.collector.specs.Answers.{complete}
 use Rattle.body_tests.specs.Refusals.{body_refusal}
 use Rattle.collector_demands.specs.Runs.{accepts, lookup, continues, run_from, missing, message, judged, Reply, reply, reply_from, reply_of}
 use Rattle.collector_demands.proofs.Bench.{M}
-use Rattle.reader.specs.declared.Reading.{Reading}
+use Rattle.reader.specs.Read.{Reading}
 use Rattle.reader.proofs.Bench.{table_m}
 use Rattle.receiver.specs.Receive.{reported, taken}
 use Rattle.texts.specs.Text.{ascii, digit, decimal, decimal_in, hexadecimal, field, address, each}

@@ -39,7 +39,7 @@ use Rattle.named.specs.Named.{classifier_numbers, unanswered, named_place, lone_
 use Rattle.named.specs.declared.Found.TheVariants.{Number}
 use Rattle.reader.specs.Take.{with_rule, with_element, table_of, is_taken}
 use Rattle.reader.specs.Read.{read_table}
-use Rattle.reader.specs.declared.Verdict.TheVariants.{Refused}
+use Rattle.reader.specs.Read.{Refused}
 use Rattle.demands.proofs.LawsOrder.{rules_of_table_of, classifiers_of_table_of}
 use Rattle.demands.proofs.LawsAscend.{Apart, places_apart}
 use Rattle.demands.proofs.LawsSearch.{FirstLone, unanswered-first}

@@ -33,9 +33,12 @@ use Rattle.types.proofs.Columns.{found_only}
 use Rattle.types.proofs.find_type.Reads as find_type_contract
 use Rattle.musts.proofs.lacks_must.Reads as lacks_must_contract
 use Rattle.element_tests.specs.Tests.{own_tests}
+use Rattle.element_tests.proofs.Stepped.{count_as, step_gives}
 use Rattle.element_tests.proofs.own_tests.Reads as own_tests_contract
 use Rattle.rows.specs.Tests.{empty_tally}
 use Rattle.rows.specs.Rows.{tested_at}
+use Rattle.rows.specs.Told.{went_of}
+use Rattle.rows.proofs.Told.{next_as, went_gives}
 use Rattle.rows.proofs.empty_tally.Reads as empty_tally_contract
 use Rattle.rows.proofs.test_element.Reads as test_element_contract
 use Rattle.clients.specs.Clients.{clients_in}
@@ -114,16 +117,16 @@ value_at_gives κs a x s h = h
 
 -- ---- element_tests
 
-pub own_tests_gives : (κs : Lfts 1) → Gives answer (own_tests_contract.Post κs) (λ a. own_tests a.0.now a.1.0 a.1.1.0 a.1.1.1.0 a.1.1.1.1.0)
-own_tests_gives κs a x s h = h
+pub own_tests_gives : (κs : Lfts 1) → Gives answer (own_tests_contract.Post κs) (λ a. count_as (own_tests a.0.now a.1.0 a.1.1.0 a.1.1.1.0 a.1.1.1.1.0))
+own_tests_gives κs a x s h = step_gives _ _ _ _ h
 
 -- ---- rows
 
 pub empty_tally_gives : (κs : Lfts 0) → Gives answer (empty_tally_contract.Post κs) (λ a. empty_tally)
 empty_tally_gives κs a x s h = h
 
-pub test_element_gives : (κs : Lfts 1) → Gives answer (test_element_contract.Post κs) (λ a. tested_at a.0.now a.1.0 a.1.1.0)
-test_element_gives κs a x s h = h
+pub test_element_gives : (κs : Lfts 1) → Gives answer (test_element_contract.Post κs) (λ a. next_as (went_of (tested_at a.0.now a.1.0 a.1.1.0)))
+test_element_gives κs a x s h = went_gives _ h
 
 -- ---- clients, rules, classifiers, configurations
 

@@ -34,7 +34,7 @@ use Rattle.named.specs.Named.{unanswered, lone_number}
 use Rattle.named.specs.declared.Found.TheVariants.{Nothing}
 use Rattle.reader.specs.Take.{with_rule, with_element, is_taken}
 use Rattle.reader.specs.Read.{read_table}
-use Rattle.reader.specs.declared.Verdict.TheVariants.{Accepted}
+use Rattle.reader.specs.Read.{Accepted}
 use Rattle.reader.proofs.Laws.{read_table-verdict, read_table-table}
 use Rattle.reader.proofs.Bench.{accepted}
 

@@ -16,9 +16,9 @@ use Rattle.table.specs.declared.Client.{Client}
 use Rattle.table.specs.declared.Table.{Table}
 use Rattle.table.specs.Table.{rules_of, clients_of, empty_table}
 use Rattle.reader.specs.Read.{refusal, read_table}
-use Rattle.reader.specs.declared.Reading.{Reading}
-use Rattle.reader.specs.declared.Verdict.{Verdict}
-use Rattle.reader.specs.declared.Verdict.TheVariants as verdict
+use Rattle.reader.specs.Read.{Reading}
+use Rattle.reader.specs.Read.{Verdict}
+use Rattle.reader.specs.Read as verdict
 use Rattle.std.specs.Prelude.{None}
 use Rattle.choice.specs.Chose as choice
 use Rattle.choice.specs.Chose.{Choice}

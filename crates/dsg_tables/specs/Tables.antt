@@ -11,8 +11,8 @@
 -- What an answer does not use is 0. Trusts: nothing.
 use Rattle.std.specs.Prelude.{ℕ, List}
 use Rattle.table.specs.declared.Table.{Table}
-use Rattle.reader.specs.declared.Verdict.{Verdict}
-use Rattle.reader.specs.declared.Reading.{Reading}
+use Rattle.reader.specs.Read.{Verdict}
+use Rattle.reader.specs.Read.{Reading}
 use Rattle.reader.specs.Read.{number_of, offset_of, read_table}
 use Rattle.listing.specs.Text.{table_text}
 use Rattle.notices.specs.Listing.{Written as WrittenText, text, refused, Listing, listing}

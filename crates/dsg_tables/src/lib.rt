@@ -7,9 +7,10 @@
 
 ghost use Rattle.std.specs.Prelude.{◌≡◌};
 ghost use Rattle.notices.specs.Listing.{written};
+ghost use Rattle.reader.specs.Shown.{passed};
 ghost use Rattle.dsg_tables.specs.Tables.{read_answer, read_stepped, listed_as, list_after, body_after, write_after};
 
-use refusals::Refusal;
+use refusals::{Fault, Refusal};
 use table::Table;
 
 // What a message is answered: number 0, or the refusal and the offset that it concerns.
@@ -28,17 +29,17 @@ pub struct ReadStepped {
 }
 
 // The numbers of a verdict on a message.
-fn answer_from(verdict: reader::Verdict) -> ReadAnswer
-    ensures { result ≡ read_answer verdict }
+fn answer_from(verdict: Result<(), Fault>) -> ReadAnswer
+    ensures { result ≡ read_answer (passed verdict) }
 {
     match verdict {
-        reader::Verdict::Accepted => ReadAnswer {
+        Ok(()) => ReadAnswer {
             number: 0,
             offset: 0,
         },
-        reader::Verdict::Refused(n, offset) => ReadAnswer {
-            number: n as u32,
-            offset,
+        Err(fault) => ReadAnswer {
+            number: u32::from(fault.refusal.number()),
+            offset: fault.offset,
         },
     }
 }

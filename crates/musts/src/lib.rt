@@ -59,12 +59,10 @@ fn lacks_between(from: usize, after: usize, counts: &[u8; 8]) -> bool
     requires { (from ≤ after) × (after ≤ from + 8) × (after ≤ 26) }
     ensures { result ≡ lacks_in from from (after - from) counts.now }
 {
-    let mut i = from;
-    while i < after {
-        if lacks_at(i, i - from, counts) {
+    for place in from..after {
+        if lacks_at(place, place - from, counts) {
             return true;
         }
-        i += 1;
     }
     false
 }

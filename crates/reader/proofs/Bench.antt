@@ -24,7 +24,7 @@ use Rattle.table.specs.declared.Table.{Table}
 use Rattle.children.specs.Rows.{done, item, row_from, row_in, row_inside, type_at}
 use Rattle.configurations.specs.Configurations.{empty_configuration, with_timers, with_channel, with_configuration_child, configuration_at}
 use Rattle.reader.specs.Read.{refusal, read_table}
-use Rattle.reader.specs.declared.Reading.{Reading}
+use Rattle.reader.specs.Read.{Reading}
 use Rattle.reader.proofs.LawsRead.{is_taken_configuration, is_taken_other, with_element_configuration, with_element-other}
 use Rattle.reader.proofs.BenchSteps.{counted, answered, whole, goes, ends}
 use Rattle.reader.proofs.BenchRefused.{twice, tdsg1_zero, read_lone_lem, read_255, read_bare, read_twice, read_tdsg1}

@@ -23,8 +23,8 @@ use Rattle.named.specs.Named.{unanswered, lone_number}
 use Rattle.named.specs.declared.Found.TheVariants.{Nothing}
 use Rattle.reader.specs.Take.{with_element, is_taken}
 use Rattle.reader.specs.Read.{refusal, read_row, read_table}
-use Rattle.reader.specs.declared.Reading.{Reading}
-use Rattle.reader.specs.declared.Verdict.TheVariants.{Accepted}
+use Rattle.reader.specs.Read.{Reading}
+use Rattle.reader.specs.Read.{Accepted}
 
 abbrev pub accepted : Table → Reading
 accepted t = record { verdict = Accepted; table = t }

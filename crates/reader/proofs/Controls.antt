@@ -13,7 +13,7 @@ use Rattle.elements.specs.Elements.{head_at}
 use Rattle.children.specs.Rows.{row_from, row_in}
 use Rattle.named.specs.Named.{unanswered, lone_number}
 use Rattle.reader.specs.Read.{number_of, read_table}
-use Rattle.reader.specs.declared.Reading.{Reading}
+use Rattle.reader.specs.Read.{Reading}
 
 -- another table than the empty one
 abbrev other : Table

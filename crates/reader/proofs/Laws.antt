@@ -30,9 +30,9 @@ use Rattle.named.specs.declared.Lone.TheVariants.{Answered, At}
 use Rattle.named.proofs.Laws.{Within, from_within, lone_number-answered, lone_number_within}
 use Rattle.reader.specs.Take.{with_element, table_of, is_taken}
 use Rattle.reader.specs.Read.{refusal, read_lone, read_row, read_table}
-use Rattle.reader.specs.declared.Reading.{Reading}
-use Rattle.reader.specs.declared.Verdict.{Verdict}
-use Rattle.reader.specs.declared.Verdict.TheVariants.{Accepted, Refused as Refuses}
+use Rattle.reader.specs.Read.{Reading}
+use Rattle.reader.specs.Read.{Verdict}
+use Rattle.reader.specs.Read.{Accepted, Refused as Refuses}
 use Rattle.reader.proofs.Sound.{Sound, sound_empty, sound_element}
 
 -- ---- what a verdict says

@@ -1,28 +1,34 @@
 -- The paper's words tell readings apart (specs/Shown.antt).
 --
---   shown_only   two readings that are shown alike are the same
+--   shown_only               two readings that are shown alike are the same
+--   answer_as, shown_gives   the reading that is shown so
 -- Trusts: nothing.
 use mathlib.Core.Path.{◌≡◌, refl, sym, ap, ◌∙◌}
-use Rattle.reader.specs.declared.Reading.{Reading}
-use Rattle.reader.specs.declared.Verdict.{Verdict}
-use Rattle.reader.specs.declared.Verdict.TheVariants.{Accepted, Refused}
-use Rattle.reader.specs.Shown.{Passed, accepted, refused, passed, Shown, shown}
+use Rattle.std.proofs.Common.{Result, Ok, Err}
+use Rattle.refusals.specs.declared.Fault.{Fault}
+use Rattle.refusals.proofs.Only.{refusal_from, refusal_from-back}
+use Rattle.reader.specs.declared.Reading.{Reading as Answer}
+use Rattle.reader.specs.Read.{Verdict, Accepted, Refused, Reading}
+use Rattle.reader.specs.Shown.{passed, shown}
 
-verdict_as : Passed → Verdict
-verdict_as accepted = Accepted
-verdict_as (refused n offset) = Refused n offset
+unfoldable pub verdict_as : Verdict → Result (Unit {0}) Fault
+verdict_as Accepted = Ok tt
+verdict_as (Refused n offset) = Err (record { refusal = refusal_from n; offset = offset })
 
-verdict_as_back : (v : Verdict) → verdict_as (passed v) ≡ v
+verdict_as_back : (v : Result (Unit {0}) Fault) → verdict_as (passed v) ≡ v
 unfolding passed verdict_as
-verdict_as_back Accepted = refl
-verdict_as_back (Refused n offset) = refl
+verdict_as_back (Ok u) = refl
+verdict_as_back (Err f) = simp (refusal_from-back f.refusal)
 
-reading_as : Shown → Reading
-reading_as s = record { verdict = verdict_as s.verdict; table = s.table }
+unfoldable pub answer_as : Reading → Answer
+answer_as s = record { verdict = verdict_as s.verdict; table = s.table }
 
-reading_as_back : (r : Reading) → reading_as (shown r) ≡ r
-unfolding shown reading_as
-reading_as_back r = rw (verdict_as_back r.verdict)
+answer_as_back : (r : Answer) → answer_as (shown r) ≡ r
+unfolding shown answer_as
+answer_as_back r = rw (verdict_as_back r.verdict)
 
-pub shown_only : (r s : Reading) → shown r ≡ shown s → r ≡ s
-shown_only r s e = sym (reading_as_back r) ∙ ap reading_as e ∙ reading_as_back s
+pub shown_only : (r s : Answer) → shown r ≡ shown s → r ≡ s
+shown_only r s e = sym (answer_as_back r) ∙ ap answer_as e ∙ answer_as_back s
+
+pub shown_gives : (r : Answer) {s : Reading} → shown r ≡ s → r ≡ answer_as s
+shown_gives r e = sym (answer_as_back r) ∙ ap answer_as e

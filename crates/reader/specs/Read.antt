@@ -18,9 +18,16 @@ use Rattle.named.specs.Named.{lone_number}
 use Rattle.named.specs.declared.Lone.{Lone}
 use Rattle.named.specs.declared.Lone.TheVariants.{Answered, At}
 use Rattle.reader.specs.Take.{with_element, is_taken}
-use Rattle.reader.specs.declared.Reading.{Reading}
-use Rattle.reader.specs.declared.Verdict.{Verdict}
-use Rattle.reader.specs.declared.Verdict.TheVariants.{Accepted, Refused}
+
+-- what became of a message: it is a table; it is refused, with the number and the offset of the type byte concerned (0 for number 3)
+pub data Verdict : Type 0 where
+  Accepted : Verdict
+  Refused : ℕ → ℕ → Verdict
+
+-- the verdict, and the table: the message's if it is accepted, else the one given
+pub record Reading : Type 0 where
+  pub verdict : Verdict
+  pub table : Table
 
 abbrev pub number_of : Verdict → ℕ
 number_of Accepted = 0

@@ -20,8 +20,8 @@ use Rattle.collector.specs.Answers.{Said, lent_of}
 use Rattle.collector.specs.Answers as collected
 use Rattle.collector.specs.Step.{collect_step}
 use Rattle.reader.specs.Read.{read_table}
-use Rattle.reader.specs.declared.Verdict.{Verdict}
-use Rattle.reader.specs.declared.Verdict.TheVariants as verdict
+use Rattle.reader.specs.Read.{Verdict}
+use Rattle.reader.specs.Read as verdict
 use Rattle.receiver.specs.declared.Report.{Report}
 use Rattle.receiver.specs.declared.Report.TheVariants.{BodyRefused, Repeat, Waiting, Accepted, MessageRefused, Dropped}
 

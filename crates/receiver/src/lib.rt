@@ -8,13 +8,14 @@
 
 ghost use Rattle.std.specs.Prelude.{◌≡◌};
 ghost use Rattle.collector.specs.Answers.{said, lent_of};
+ghost use Rattle.reader.specs.Shown.{passed};
 ghost use Rattle.receiver.specs.Receive.{told, reported, taken, receive_step};
 
 use collection::Collection;
 use collector::{Answer, Outcome};
 use messages::Source;
-use reader::{Reading, Verdict};
-use refusals::Refusal;
+use reader::Reading;
+use refusals::{Fault, Refusal};
 use table::Table;
 
 // What a body is answered.
@@ -44,18 +45,19 @@ pub struct Received {
 }
 
 // How a verdict is reported.
-fn report_of(verdict: Verdict) -> Report
-    ensures { told result ≡ reported verdict }
+#[tactic(auto, unfolding(reader::specs::Shown::passed))]
+fn report_of(verdict: Result<(), Fault>) -> Report
+    ensures { told result ≡ reported (passed verdict) }
 {
     match verdict {
-        Verdict::Accepted => Report::Accepted,
-        Verdict::Refused(number, offset) => Report::MessageRefused(number, offset),
+        Ok(()) => Report::Accepted,
+        Err(fault) => Report::MessageRefused(fault.refusal.number(), fault.offset),
     }
 }
 
 // What is answered after a reading.
 fn finish(held: Collection, reading: Reading) -> Received
-    ensures { (told result.report ≡ reported reading.verdict) × (result.held ≡ held) × (result.table ≡ reading.table) }
+    ensures { (told result.report ≡ reported (passed reading.verdict)) × (result.held ≡ held) × (result.table ≡ reading.table) }
 {
     Received {
         report: report_of(reading.verdict),
@@ -76,7 +78,7 @@ fn message_of<'m>(outcome: Outcome, body: &'m [u8], join: &'m [u8]) -> &'m [u8]
 }
 
 // What is answered after the collector's outcome: a message that is complete is read.
-#[tactic(auto, using(reader::proofs::Shown::shown_only), unfolding(crate::specs::Receive::taken))]
+#[tactic(auto, unfolding(reader::specs::Shown::shown, crate::specs::Receive::taken))]
 fn take_up(outcome: Outcome, table: Table, body: &[u8], join: &[u8]) -> Received
     ensures { (record { report = told result.report; table = result.table } ≡ taken (said outcome.answer) table (lent_of (said outcome.answer) outcome.held.number body.now join.now)) × (result.held ≡ outcome.held) }
 {

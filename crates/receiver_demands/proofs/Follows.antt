@@ -13,8 +13,8 @@ use native.Mathlib.Omega.{arith}
 use Rattle.table.specs.declared.Table.{Table}
 use Rattle.collector.specs.Answers.{Said, refused, again, waiting, complete, dropped}
 use Rattle.collector_demands.specs.Demand.{Lent, called, lent_after, reply_to, is_complete, completions}
-use Rattle.reader.specs.declared.Verdict.{Verdict}
-use Rattle.reader.specs.declared.Verdict.TheVariants.{Accepted, Refused}
+use Rattle.reader.specs.Read.{Verdict}
+use Rattle.reader.specs.Read.{Accepted, Refused}
 use Rattle.reader.specs.Read.{read_table}
 use Rattle.receiver.specs.Receive.{reported, taken, receive_step}
 use Rattle.receiver_demands.specs.EndToEnd.{Kept, stepped, kept_after, is_read, readings}

@@ -3,15 +3,17 @@
 --   fault_of-only, went_only        two answers that say the same are the same
 --   fault_fine, fault_bad           an answer that is fine says no refusal; one that is a refusal does
 --   next_as, went_gives             the answer that says this
+--   went_fine, went_bad             what stands after an element that is fine; the refusal of one that is not
 -- Trusts: nothing.
 use mathlib.Core.Path.{◌≡◌, refl, sym, ap, ◌∙◌}
-use Rattle.std.proofs.Common.{ℕ, cond, eqb, Result, Ok, Err}
-use borrow.Author.Tests.{ne_eqb}
+use Rattle.std.proofs.Common.{ℕ, Bool, true, false, cond, eqb, Result, Ok, Err}
+use borrow.Author.Tests.{ne_eqb, eqb-true, eqb-false}
 use Rattle.refusals.specs.Refusals.{number_of}
 use Rattle.refusals.specs.declared.Fault.{Fault as Refused}
 use Rattle.refusals.proofs.Only.{refusal_from, refusal_from-back, number_of-some}
 use Rattle.rows.specs.Tests.{Fault}
-use Rattle.rows.specs.Told.{fault_of, Went, on, refused, went}
+use Rattle.rows.specs.Rows.{Tested}
+use Rattle.rows.specs.Told.{fault_of, Went, on, refused, went, went_of}
 use Rattle.rows.specs.declared.Next.{Next}
 
 unfoldable pub row_as : Fault → Result (Unit {0}) Refused
@@ -47,3 +49,20 @@ went_only r q e = sym (next_as_back r) ∙ ap next_as e ∙ next_as_back q
 
 pub went_gives : (r : Result Next Refused) {w : Went} → went r ≡ w → r ≡ next_as w
 went_gives r e = sym (next_as_back r) ∙ ap next_as e
+
+pub went_fine : (n : Next) (t : Tested) → went (Ok n) ≡ went_of t → (t.bad ≡ 0) × (n.place ≡ t.next) × (n.tally ≡ t.tally)
+unfolding went went_of
+went_fine n t = go (eqb t.bad 0) refl
+  where
+    go : (b : Bool) → eqb t.bad 0 ≡ b → on n.place n.tally ≡ cond b (on t.next t.tally) (refused t.bad t.off) → (t.bad ≡ 0) × (n.place ≡ t.next) × (n.tally ≡ t.tally)
+    go true z e = (eqb-true _ _ z, cc, cc)
+    go false z e = absurd (cc)
+
+pub went_bad : (f : Refused) (t : Tested) → went (Err f) ≡ went_of t → (t.bad ≡ 0 → ⊥) × (number_of f.refusal ≡ t.bad) × (f.offset ≡ t.off)
+unfolding went went_of
+went_bad f t = go (eqb t.bad 0) refl
+  where
+    go : (b : Bool) → eqb t.bad 0 ≡ b → refused (number_of f.refusal) f.offset ≡ cond b (on t.next t.tally) (refused t.bad t.off)
+        → (t.bad ≡ 0 → ⊥) × (number_of f.refusal ≡ t.bad) × (f.offset ≡ t.off)
+    go true z e = absurd (cc)
+    go false z e = (eqb-false _ _ z, cc, cc)

@@ -1,6 +1,6 @@
 -- What the rule says on each way through the code of `element`, `row_from` and `test_element`: one law for each return and for the turn of the loop.
 -- Trusts: nothing.
-use mathlib.Core.Path.{◌≡◌, sym, ap, ◌∙◌}
+use mathlib.Core.Path.{◌≡◌, refl, sym, ap, ◌∙◌}
 use mathlib.Core.Bool.{Bool, true, false}
 use mathlib.Core.List.{List}
 use Prim.Native.Nat.{ℕ, ◌+◌}
@@ -78,16 +78,18 @@ module _ (msg : List ℕ) (at : ℕ) (t : Tally) {h : Head} (e : h ≡ head_at m
   unfolding tested_at went_of
   top_bad b z = sym (simp (← e, b, ne_eqb _ _ z))
 
-  module _ {len : ℕ} (b : h ≡ Value len) {s : Step} (x : s ≡ element_of msg 26 at len t.counts) where
-    top_goes : tested_at msg at t ≡ record { bad = s.bad; off = s.off; next = at + 2 + len; tally = record { counts = noted t.counts s } }
-    unfolding tested_at
-    top_goes = simp (← e, b, ← x)
+  pub top_goes : {len : ℕ} {s : Step} {u : Tally} → h ≡ Value len → s ≡ element_of msg 26 at len t.counts → u.counts ≡ noted t.counts s
+      → record { bad = s.bad; off = s.off; next = at + 2 + len; tally = u } ≡ tested_at msg at t
+  unfolding tested_at
+  top_goes b x q = simp (← e, b, ← x, ← q)
 
+  module _ {len : ℕ} {s : Step} (b : h ≡ Value len) (x : s ≡ element_of msg 26 at len t.counts) where
     pub top_passed : {u : Tally} → s.bad ≡ 0 → u.counts ≡ noted t.counts s → on (at + 2 + len) u ≡ went_of (tested_at msg at t)
     unfolding went_of
-    top_passed z q = sym (simp (top_goes, eq-eqb _ _ z, ← q))
+    top_passed {u} z q = sym (simp (← top_goes {u = u} b x q, eq-eqb _ _ z))
 
     pub top_refused : (f : Refusing) → fault_of at (Err f) ≡ fault_in s → went (Err f) ≡ went_of (tested_at msg at t)
     unfolding went went_of fault_of
     top_refused f z =
-        ap (λ (g : Fault). refused g.bad g.off) z ∙ sym (simp (top_goes, ne_eqb _ _ (fault_bad at f z)))
+        ap (λ (g : Fault). refused g.bad g.off) z
+        ∙ sym (simp (← top_goes {u = record { counts = noted t.counts s }} b x refl, ne_eqb _ _ (fault_bad at f z)))

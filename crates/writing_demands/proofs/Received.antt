@@ -14,7 +14,7 @@ use native.Mathlib.Omega.{arith}
 use lib.ListN.{length, length-append}
 use Rattle.wire.specs.Bytes.{concat}
 use Rattle.table.specs.declared.Table.{Table}
-use Rattle.reader.specs.declared.Reading.{Reading}
+use Rattle.reader.specs.Read.{Reading}
 use Rattle.writing_cuts.specs.Pieces.{pieces_from, pieces_of, ElementSized, none, more}
 use Rattle.writing_cuts.proofs.Pieces.{concat_pieces, pieces_some, pieces_short, pieces_few}
 use Rattle.writing_elements.specs.Encode.{elements_of, message_of}

@@ -23,7 +23,7 @@ use Rattle.named.specs.Named.{lone_number}
 use Rattle.rows.specs.Tests.{none_counted}
 use Rattle.reader.specs.Take.{with_rule, with_classifier, with_configuration}
 use Rattle.reader.specs.Read.{read_table}
-use Rattle.reader.specs.declared.Verdict.TheVariants.{Accepted}
+use Rattle.reader.specs.Read.{Accepted}
 use Rattle.reader.proofs.LawsRead.{read_ends, is_taken_rule, is_taken_classifier, is_taken_configuration, with_element-rule, with_element-classifier, with_element_configuration}
 use Rattle.wire.specs.Bytes.{concat}
 use Rattle.texts.specs.Text.{each}

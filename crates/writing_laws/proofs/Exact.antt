@@ -18,8 +18,8 @@ use Rattle.table.specs.declared.Classifier.{Classifier}
 use Rattle.table.specs.declared.Table.{Table}
 use Rattle.table.proofs.Laws.{length-clients_of_le, length-ucids_of_le}
 use Rattle.reader.specs.Read.{read_table}
-use Rattle.reader.specs.declared.Reading.{Reading}
-use Rattle.reader.specs.declared.Verdict.TheVariants.{Accepted}
+use Rattle.reader.specs.Read.{Reading}
+use Rattle.reader.specs.Read.{Accepted}
 use Rattle.texts.specs.Text.{each}
 use Rattle.wire.specs.Bytes.{concat}
 use Rattle.writing_elements.specs.Encode.{big_endian, element, client_bytes, number_bytes, ucid_bytes, rule_row, rule_bytes, part, part_row, classifier_row, classifier_bytes, channel_bytes, timer, timers_row, configuration_row, configured, message_of}

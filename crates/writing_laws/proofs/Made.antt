@@ -34,7 +34,7 @@ use Rattle.named.specs.declared.Found.{Found}
 use Rattle.named.specs.declared.Found.TheVariants.{Nothing, Number}
 use Rattle.reader.specs.Take.{with_rule, with_classifier, with_configuration, with_element, is_taken}
 use Rattle.reader.specs.Read.{refusal, read_lone, read_row, read_table}
-use Rattle.reader.specs.declared.Verdict.TheVariants.{Accepted, Refused}
+use Rattle.reader.specs.Read.{Accepted, Refused}
 use Rattle.reader.proofs.Sound.{Sound, sound_empty, sound_element}
 use Rattle.writing_laws.specs.Claims.{RuleGood, ClassifierGood, Producible}
 use Rattle.writing_laws.proofs.Known.{known, top_23, top_50, top_51}

@@ -1,19 +1,15 @@
--- `musts::lacks_between` says whether a must is missing. The loop keeps that from `i` on one is missing where one is from `from` on; what is
--- left of the places falls.
+-- `musts::lacks_between` says whether a must is missing.
 -- Trusts: nothing.
-use borrow.Author.Rules.{rules}
-use Prim.Native.Nat.{◌≤◌, ◌-◌}
-use mathlib.Core.Path.{◌≡◌, sym, ◌∙◌}
+use mathlib.Core.Path.{sym, ◌∙◌}
 use native.Mathlib.Omega.{arith}
-use Rattle.musts.specs.Musts.{lacks_in}
 use Rattle.musts.proofs.Laws.{lacks_in-here, lacks_in-other, lacks_in-none}
 use Rattle.musts.proofs.lacks_between.Goals as goal
 
 pub returns-then-lacks_at : goal.returns-then-lacks_at
-returns-then-lacks_at c = sym (lacks_in-here _ _ c.loop-i-test.true _ _ c.lacks_at.ensures c.if-lacks_at.true) ∙ c.loop-i.invariant.2
+returns-then-lacks_at c = sym (lacks_in-here _ _ (omega arith) _ _ c.lacks_at.ensures c.if-lacks_at.true) ∙ c.loop-place.invariant
 
-pub loop-i-preserved : goal.loop-i-preserved
-loop-i-preserved c = (omega arith, omega arith, sym (lacks_in-other _ _ c.loop-i-test.true _ _ c.lacks_at.ensures c.if-lacks_at.false) ∙ c.loop-i.invariant.2)
+pub loop-place-preserved : goal.loop-place-preserved
+loop-place-preserved c = sym (lacks_in-other _ _ (omega arith) _ _ c.lacks_at.ensures c.if-lacks_at.false) ∙ c.loop-place.invariant
 
 pub returns : goal.returns
-returns c = lacks_in-none _ _ _ _ (omega arith) ∙ c.loop-i.invariant.2
+returns c = lacks_in-none _ _ _ _ (omega arith) ∙ c.loop-place.invariant
