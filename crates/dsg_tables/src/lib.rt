@@ -14,6 +14,7 @@ use refusals::{Fault, Refusal};
 use table::Table;
 
 // What a message is answered: number 0, or the refusal and the offset that it concerns.
+// Kept: C is answered it (`struct dsg_read_answer` of include/dsg.h), fields, order and types.
 #[repr(C)]
 #[derive(Clone, Copy)]
 pub struct ReadAnswer {
@@ -59,6 +60,7 @@ pub fn read_value(table: Table, message: &[u8]) -> ReadStepped
 }
 
 // What a listing is answered: number 0 and the length of the text, or the refusal.
+// Kept: C is answered it (`struct dsg_listed` of include/dsg.h), fields, order and types.
 #[repr(C)]
 #[derive(Clone, Copy)]
 pub struct Listed {
@@ -96,6 +98,7 @@ pub fn list_body_value(body: &[u8], out: &mut [u8]) -> Listed
 }
 
 // What a writing is answered: number 0, how many bodies were written and the length of each, or the refusal.
+// Kept: C is answered it (`struct dsg_written` of include/dsg.h), fields, order and types.
 #[repr(C)]
 #[derive(Clone, Copy)]
 pub struct Written {

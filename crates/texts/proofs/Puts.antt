@@ -1,7 +1,7 @@
 -- Laws of `put` (specs/Put.antt).
 --
 --   put_past     no room: nothing is written           put-room     what was written, where it has room
---   put→wrote    what `put` says of a text that has room     put_first, put_last     of the first and the last of two
+--   put→wrote    what `put` says of a text that has room     put_first     of the first of two
 --   room_left    the test of the room, made without a sum
 --   room_past, room_fits     what the test says of a word and digits behind it
 --   wrote_put    a first text that was put, and what is written behind it      wrote_end     the last text
@@ -36,10 +36,6 @@ put→wrote {text} {out} {new} {at} {next} h e =
 
 pub put_first : {s out new : List ℕ} {at next : ℕ} (t : List ℕ) → Fits out at (s ++ t) → record { next = next; out = new } ≡ put s out at → Wrote out at s new next
 put_first t h e = put→wrote (fits-first t h) e
-
-pub put_last : {s out new last : List ℕ} {at next end : ℕ} (t : List ℕ) → Fits out at (s ++ t) → Wrote out at s new next → record { next = end; out = last } ≡ put t new next
-    → Wrote out at (s ++ t) last end
-put_last t h w e = wrote_then h w (put→wrote (fits_rest h w) e)
 
 -- a word and so many digits behind it: the test of the room, made without a sum
 pub room_left : (bytes at word k : ℕ) → at ≤ bytes → word ≤ bytes - at → leb k (bytes - at - word) ≡ leb (at + (word + k)) bytes

@@ -1,4 +1,4 @@
--- Writing: what private writers ask and leave (no public contract cites it).
+-- Writing: what private writers ask and leave (of the public contracts that of `Writer::put_each` alone cites it).
 --
 --   Fits out at text             the text has room in the buffer from `at` on
 --   Wrote out at text new next   the buffer is now `new`: the text from `at` on, all else as it was; `next` is the place behind it

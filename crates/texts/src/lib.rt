@@ -51,6 +51,7 @@ fn put_decimal(n: u64, out: &mut [u8], at: usize) -> usize
 }
 
 // Writes the last `width` hexadecimal digits of a number.
+// Kept: one function of a base is no plainer: `put_decimal` ends where the number does, this one at a width.
 fn put_hexadecimal(width: usize, n: u64, out: &mut [u8], at: usize) -> usize
     requires { Fits out.old at (hexadecimal width n) }
     ensures { Wrote out.old at (hexadecimal width n) out.new result }
@@ -76,13 +77,7 @@ fn count_digits(n: u64) -> usize
 fn has_room(bytes: usize, at: usize, word: usize, digits: usize) -> bool
     ensures { result ≡ leb (at + (word + digits)) bytes }
 {
-    if bytes < at {
-        return false;
-    }
-    if bytes - at < word {
-        return false;
-    }
-    digits <= bytes - at - word
+    at <= bytes && word <= bytes - at && digits <= bytes - at - word
 }
 
 impl Writer<'_> {
