@@ -154,7 +154,7 @@ module _ (t : Table) (c : Client) (u : Ucid) where
       go true eb en = let z : ◌≡◌ {A = ℕ} 0 1 = cc in absurd (omega arith)
       go false eb en =
           let all = le_antisymm (best_place_le pr nu ok rules) (ltb-false place (length rules) eb) in
-          (cc, best_place_nobody pr nu ok rules (rules_of-few t) all)
+          (cc, best_place_nobody pr nu ok rules all)
 
   pub choice_of_unlisted : ((rule : Rule) → Memᴰ rule (rules_of t) → lists_client rule c ≡ false) → choice_of t c u ≡ Refused 17
   unfolding fits_client

@@ -69,11 +69,11 @@ module _ (c : Client) (u : Ucid) where
         let p = place_of empty_rule rs m in
         rw p.2 at (best_place_over empty_rule pr nu ok rs h p.0 p.1 (ap ok p.2 ∙ e))
 
-  nobody : (rs : List Rule) → length rs ≤ 32 → length rs ≤ chosen_place c u rs → (y : Rule) → Memᴰ y rs → fits_client c u y ≡ false
+  nobody : (rs : List Rule) → length rs ≤ chosen_place c u rs → (y : Rule) → Memᴰ y rs → fits_client c u y ≡ false
   unfolding chosen_place
-  nobody rs l h = best_place_nobody pr nu ok rs l (le_antisymm (best_place_le pr nu ok rs) h)
+  nobody rs h = best_place_nobody pr nu ok rs (le_antisymm (best_place_le pr nu ok rs) h)
 
-  module _ (rs ss : List Rule) (few : length rs ≤ 32) (less : length ss ≤ 32) (to : (y : Rule) → Memᴰ y rs → Memᴰ y ss) (back : (y : Rule) → Memᴰ y ss → Memᴰ y rs)
+  module _ (rs ss : List Rule) (to : (y : Rule) → Memᴰ y rs → Memᴰ y ss) (back : (y : Rule) → Memᴰ y ss → Memᴰ y rs)
       (unique : (y z : Rule) → Memᴰ y rs → Memᴰ z rs → y.number ≡ z.number → y ≡ z) where
     pub chosen_rule_members : chosen_rule c u rs ≡ chosen_rule c u ss
     unfolding chosen_rule
@@ -89,13 +89,13 @@ module _ (c : Client) (u : Ucid) where
             unique x y (member rs h) (back y (member ss k)) tied.1
         go true false ea eb =
             let h = ltb-true (chosen_place c u rs) (length rs) ea in
-            absurd (clash (fits rs h) (nobody ss less (ltb-false (chosen_place c u ss) (length ss) eb) (chosen_rule c u rs) (to (chosen_rule c u rs) (member rs h))))
+            absurd (clash (fits rs h) (nobody ss (ltb-false (chosen_place c u ss) (length ss) eb) (chosen_rule c u rs) (to (chosen_rule c u rs) (member rs h))))
         go false true ea eb =
             let k = ltb-true (chosen_place c u ss) (length ss) eb in
-            absurd (clash (fits ss k) (nobody rs few (ltb-false (chosen_place c u rs) (length rs) ea) (chosen_rule c u ss) (back (chosen_rule c u ss) (member ss k))))
+            absurd (clash (fits ss k) (nobody rs (ltb-false (chosen_place c u rs) (length rs) ea) (chosen_rule c u ss) (back (chosen_rule c u ss) (member ss k))))
         go false false ea eb =
             get_or-eq_default rs empty_rule (ltb-false (chosen_place c u rs) (length rs) ea) ∙ sym (get_or-eq_default ss empty_rule (ltb-false (chosen_place c u ss) (length ss) eb))
 
-  pub chosen_rule_perm : (rs ss : List Rule) → length rs ≤ 32 → length ss ≤ 32 → Permᴰ rs ss
+  pub chosen_rule_perm : (rs ss : List Rule) → Permᴰ rs ss
       → ((y z : Rule) → Memᴰ y rs → Memᴰ z rs → y.number ≡ z.number → y ≡ z) → chosen_rule c u rs ≡ chosen_rule c u ss
-  chosen_rule_perm rs ss few less p unique = chosen_rule_members rs ss few less (λ y m. perm_mem p m) (λ y m. perm_mem (Permᴰ.symm p) m) unique
+  chosen_rule_perm rs ss p unique = chosen_rule_members rs ss (λ y m. perm_mem p m) (λ y m. perm_mem (Permᴰ.symm p) m) unique

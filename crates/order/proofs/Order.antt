@@ -5,15 +5,19 @@
 --   comes_before_self, -asym, -trans    nothing comes before itself; not both ways; through a third
 --   comes_before_past                   what comes before x comes before whatever x does not come after
 --   comes_before_tied                   where neither comes before the other, both numbers are the same
+--   pairs_in_order                      the code's test, `<` on two pairs, is that order
 -- Trusts: nothing.
 use mathlib.Core.Path.{◌≡◌, refl, sym}
-use mathlib.Core.Bool.{Bool, true, false, ◌&&◌, ◌||◌}
+use mathlib.Core.Bool.{Bool, true, false, cond, ◌&&◌, ◌||◌}
 use mathlib.Core.Logic.{◌⊎◌, inl, inr}
 use Prim.Native.Nat.{ℕ, ◌≤◌, ◌<◌}
 use native.Mathlib.Nat.{le_refl, le_of_eq}
 use native.Mathlib.Omega.{arith}
 use lib.Dec.{ltb, eqb}
 use borrow.Author.Tests.{ltb-true, ltb-false, eqb-true, eqb-false, lt-ltb, le-ltb, eq-eqb, ne_eqb}
+use Rattle.std.specs.Prelude.{Some}
+use Rattle.std.specs.declared.cmp.Ordering.TheVariants.{Equal, Greater}
+use Rattle.std.specs.Ordering.{is_lt, partial_lt, partial_ordering_then, nat_cmp}
 use Rattle.order.specs.Best.{comes_before}
 
 module _ (p n q m : ℕ) where
@@ -95,3 +99,18 @@ comes_before_tied p n q m e f = go (comes_before_no p n q m e) (comes_before_no 
     go (inl h) (inr k) = (omega arith, omega arith)
     go (inr h) (inl k) = (omega arith, omega arith)
     go (inr h) (inr k) = (h.0, omega arith)
+
+pub pairs_in_order : (p n q m : ℕ) → partial_lt (λ (x y : ℕ × ℕ). partial_ordering_then (Some (nat_cmp x.0 y.0)) (Some (nat_cmp x.1 y.1))) (q, n) (p, m) ≡ comes_before p n q m
+unfolding comes_before
+pairs_in_order p n q m = go (ltb q p) (eqb q p) (ltb n m) refl refl refl
+  where
+    behind : (b : Bool) → is_lt (cond b Equal Greater) ≡ false
+    behind true = refl
+    behind false = refl
+
+    go : (a b l : Bool) → ltb q p ≡ a → eqb q p ≡ b → ltb n m ≡ l
+        → partial_lt (λ (x y : ℕ × ℕ). partial_ordering_then (Some (nat_cmp x.0 y.0)) (Some (nat_cmp x.1 y.1))) (q, n) (p, m) ≡ ltb q p || (eqb p q && ltb n m)
+    go true b l ea eb el = rw ea
+    go false true true ea eb el = rw (ea, eb, el, eq-eqb p q (sym (eqb-true q p eb)))
+    go false true false ea eb el = rw (ea, eb, el, eq-eqb p q (sym (eqb-true q p eb))) (behind (eqb n m))
+    go false false l ea eb el = rw (ea, eb, ne_eqb p q (λ e. eqb-false q p eb (sym e)))

@@ -5,17 +5,22 @@
 --   best_place-at                  x passes, comes before each passing member in front of it, and none behind it comes before x
 --   best_place-none                no member passes
 --   first_place_le, best_place_le   a place, or the length
+--   within_some, within_none        what an answer of `within` says of the place
 -- Trusts: nothing.
 use mathlib.Core.Path.{◌≡◌, refl, sym, ap, ◌∙◌}
 use mathlib.Core.Bool.{Bool, true, false, cond, not, ◌&&◌, ◌||◌}
 use mathlib.Core.List.Memᴰ
 use mathlib.Core.List.{List, [], ◌∷◌, ◌++◌, Memᴰ}
-use mathlib.Core.Logic.{◌⊎◌, inl, inr, ⊎_elim}
+use mathlib.Core.Logic.{◌⊎◌, inl, inr}
 use Prim.Native.Nat.{ℕ, suc, ◌≤◌, ◌<◌}
 use native.Mathlib.Nat.{le_refl}
 use native.Mathlib.Omega.{arith}
 use lib.ListN.{length}
-use Rattle.order.specs.Best.{comes_before, any_of, first_place, is_best, best_place}
+use lib.Dec.{ltb}
+use borrow.Author.Tests.{ltb-true, ltb-false}
+use Rattle.std.specs.Prelude.{None, Some}
+use Rattle.std.proofs.lemmas.Option.{none-some}
+use Rattle.order.specs.Best.{comes_before, any_of, first_place, is_best, best_place, within}
 use Rattle.order.proofs.Order.{comes_before_self, comes_before_asym}
 
 pub clash : {b : Bool} → b ≡ true → b ≡ false → ⊥
@@ -106,3 +111,19 @@ module _ {A : Type 0} (pr nu : A → ℕ) (ok : A → Bool) where
     unfolding best_place is_best
     best_place-at =
         first_place-at (is_best pr nu ok all) pre x post not_front (simp (e, any_of_no (λ z. ok z && before z x) all beaten))
+
+pub within_some : (end k j : ℕ) → Some j ≡ within end k → (k ≡ j) × (j < end)
+unfolding within
+within_some end k j e = go (ltb k end) refl e
+  where
+    go : (b : Bool) → ltb k end ≡ b → Some j ≡ cond b (Some k) None → (k ≡ j) × (j < end)
+    go true eb es = let same : k ≡ j = cc in (same, omega (arith, ltb-true k end eb))
+    go false eb es = absurd (none-some j (sym es))
+
+pub within_none : (end k : ℕ) → None ≡ within end k → end ≤ k
+unfolding within
+within_none end k e = go (ltb k end) refl e
+  where
+    go : (b : Bool) → ltb k end ≡ b → None ≡ cond b (Some k) None → end ≤ k
+    go true eb es = absurd (none-some k es)
+    go false eb es = ltb-false k end eb

@@ -5,12 +5,18 @@
 --   any_of ok xs             whether an element passes
 --   first_place ok xs        the place of the first element that passes; the length where none does
 --   best_place pr nu ok xs   the first place that passes and before whose element no passing one comes
---   is_better, best_after     the best so far, and what it is after one more place: 32 is none yet
+--   within end k             a place that is before the end; none where it is not
+--   is_better, best_after    the best so far, or none yet, and what it is after one more place
+--   Ranks, Tells             calls give each element's priority and number; whether each passes
 --
 -- `pr` and `nu` give an element's priority and number. Both are numbers: 80 is above 9.
--- Tested by: message M in proofs/Bench.antt; random tables against the other program.
+-- Tested by: message M in choice's proofs/Bench.antt; random tables against the other program.
 -- Trusts: nothing.
-use Rattle.std.specs.Prelude.{ℕ, suc, Bool, true, false, cond, not, ◌&&◌, ◌||◌, List, [], ◌∷◌, ltb, eqb}
+use denote.Param.Members.{Shared}
+use denote.Ref.{Bor}
+use mathlib.Core.List.{Memᴰ}
+use Rattle.std.specs.Prelude.{◌≡◌, ℕ, suc, Bool, true, false, cond, not, ◌&&◌, ◌||◌, List, [], ◌∷◌, ltb, eqb, Option, None, Some}
+use Rattle.std.specs.Fn.{FnReturnsAt}
 use Rattle.order.specs.declared.Best.{Best}
 
 unfoldable pub comes_before : ℕ → ℕ → ℕ → ℕ → Bool
@@ -32,9 +38,22 @@ module _ {A : Type 0} where
   unfoldable pub best_place : (A → ℕ) → (A → ℕ) → (A → Bool) → List A → ℕ
   best_place pr nu ok xs = first_place (is_best pr nu ok xs) xs
 
-unfoldable pub is_better : Best → ℕ → ℕ → Bool
-is_better b p n = eqb b.place 32 || comes_before p n b.priority b.number
+-- the place k of a list that ends at `end`
+unfoldable pub within : ℕ → ℕ → Option ℕ
+within end k = cond (ltb k end) (Some k) None
+
+unfoldable pub is_better : Option Best → ℕ → ℕ → Bool
+is_better None p n = true
+is_better (Some b) p n = comes_before p n b.priority b.number
 
 -- the best after the place `at`, with priority p and number n, which passes or does not
-unfoldable pub best_after : Best → ℕ → ℕ → ℕ → Bool → Best
-best_after b at p n ok = cond (is_better b p n && ok) (record { place = at; priority = p; number = n }) b
+unfoldable pub best_after : Option Best → ℕ → ℕ → ℕ → Bool → Option Best
+best_after b at p n ok = cond (is_better b p n && ok) (Some (record { place = at; priority = p; number = n })) b
+
+-- what the calls of f give at the elements of xs
+module _ {F A : Type 0} where
+  pub record Ranks (g : Shared F (Bor A × Unit {0}) (ℕ × ℕ)) (f : F) (pr nu : A → ℕ) (xs : List A) : Type 0 where
+    pub rank : (x : A) (r : ℕ × ℕ) → Memᴰ x xs → FnReturnsAt g f x r → (r.0 ≡ pr x) × (r.1 ≡ nu x)
+
+  pub record Tells (g : Shared F (Bor A × Unit {0}) Bool) (f : F) (ok : A → Bool) (xs : List A) : Type 0 where
+    pub test : (x : A) (r : Bool) → Memᴰ x xs → FnReturnsAt g f x r → r ≡ ok x

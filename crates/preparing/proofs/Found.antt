@@ -134,7 +134,7 @@ module _ (t : Table) (rule : Rule) (frame : List ℕ) where
 
   nobody : length (classifiers_of t) ≤ match_place t rule frame → (y : Classifier) → Memᴰ y (classifiers_of t) → ok t rule frame y ≡ false
   unfolding match_place
-  nobody h = best_place_nobody pr nu (ok t rule frame) (classifiers_of t) (few t rule frame) (le_antisymm (best_place_le pr nu (ok t rule frame) (classifiers_of t)) h)
+  nobody h = best_place_nobody pr nu (ok t rule frame) (classifiers_of t) (le_antisymm (best_place_le pr nu (ok t rule frame) (classifiers_of t)) h)
 
   pub decided : Decided t rule frame
   unfolding comes_first

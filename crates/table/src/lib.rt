@@ -34,7 +34,7 @@ pub const RULE_UCIDS: usize = 16;
 
 // A client ID: its kind, and its value as a number (a MAC as its six bytes, big-endian).
 #[repr(C)]
-#[derive(Clone, Copy)]
+#[derive(Clone, Copy, PartialEq, Eq)]
 pub struct Client {
     pub kind: u8,
     pub value: u64,

@@ -1,38 +1,30 @@
--- `choice::choose_rule` gives `choice_of`. The invariant: the walk from `i` on with the best so far ends as the whole walk does; `n - i` falls.
--- What the whole walk finds is the choice, by Walk.
+-- `choice::choose_rule` gives `choice_of`: the best of the rules that fit, or 17.
 -- Trusts: nothing.
 use borrow.Author.Rules.{rules}
-use mathlib.Core.Path.{sym, ◌∙◌}
-use native.Mathlib.Omega.{arith}
-use Rattle.table.specs.Table.{rules_of}
-use Rattle.order.proofs.Scan.{scan_more, scan_end}
+use mathlib.Core.Path.{◌≡◌, refl, ap, ◌∙◌}
+use mathlib.Core.Bool.{Bool, true, false, cond}
+use Prim.Native.Nat.{ℕ}
+use lib.Dec.{ltb}
+use Rattle.std.proofs.Common.{Some, None, ok_or}
 use Rattle.refusals.specs.Refusals.{number_of}
-use Rattle.choice.specs.Chose.{chose}
-use Rattle.choice.proofs.Walk.{refuses, chooses, stays}
+use Rattle.refusals.specs.declared.Refusal.TheVariants.{NoRule}
+use Rattle.order.specs.Best.{within}
+use Rattle.table.specs.Table.{rules_of}
+use Rattle.choice.specs.Choose.{chosen_place, fits_client, choice_of}
+use Rattle.choice.specs.Chose.{Choice, Chosen, Refused, chose}
 use Rattle.choice.proofs.choose_rule.Goals as goal
-use Rattle.choice.proofs.choose_rule.Goals.{then-may_win, else-may_win}
 
-pub loop-i-preserved : goal.loop-i-preserved
-loop-i-preserved c =
-    let inv = c.loop-i.invariant in
-    elim c.if-may_win.branch [
-      | then-may_win w ↦ (search rules, inv.1, inv.2, rw (w.best-is ∙ w.take_rule-best.ensures) (sym (scan_more _ _ _ _ _ _ _ _ c.loop-i-test.true (omega arith)) ∙ inv.3))
-      | else-may_win w ↦
-          let same = stays _ c.loop-i.i _ _ _ (c.may_win.ensures w.if-may_win.false c.args.ucid) in
-          (search rules, inv.1, inv.2, rw (w.best-is ∙ sym same) (sym (scan_more _ _ _ _ _ _ _ _ c.loop-i-test.true (omega arith)) ∙ inv.3))
-    ]
-
--- behind the loop the whole walk is done
-pub returns-then-place-eq32 : goal.returns-then-place-eq32
-unfolding rules_of chose number_of
-returns-then-place-eq32 c =
-    let inv = c.loop-i.invariant in
-    let done = sym (scan_end _ _ _ _ _ _ _ c.loop-i-test.false) ∙ inv.3 in
-    refuses _ _ _ inv.2 _ (rw c.limited-n.ensures at done) c.if-place-eq32.true
+-- the answer by the place that was found
+told : (end k : ℕ) → chose (ok_or (within end k) NoRule) ≡ cond (ltb k end) (Chosen k) (Refused 17)
+unfolding within chose number_of
+told end k = go (ltb k end)
+  where
+    go : (b : Bool) → chose (ok_or (cond b (Some k) None) NoRule) ≡ cond {A = Choice} b (Chosen k) (Refused 17)
+    go true = refl
+    go false = refl
 
 pub returns : goal.returns
-unfolding rules_of chose
+unfolding choice_of chosen_place rules_of
 returns c =
-    let inv = c.loop-i.invariant in
-    let done = sym (scan_end _ _ _ _ _ _ _ c.loop-i-test.false) ∙ inv.3 in
-    chooses _ _ _ inv.2 _ (rw c.limited-n.ensures at done) c.if-place-eq32.false
+    let found = c.best_place-place.ensures (λ rule. rule.priority) (λ rule. rule.number) (fits_client c.args.client c.args.ucid) (record { rank = λ x r m f. search rules }) (record { test = λ x r m f. search rules }) in
+    rw (← c.limited-count.ensures) (ap chose (c.ok_or.ensures.value ∙ ap (λ o. ok_or o NoRule) found) ∙ told _ _)

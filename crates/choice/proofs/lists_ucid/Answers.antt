@@ -1,30 +1,12 @@
--- `choice::lists_ucid` gives `lists_ucid`. The invariant: the UCIDs from `j` on have the number where all have it.
+-- `choice::lists_ucid` gives `lists_ucid`: the library's search of the UCIDs that are used.
 -- Trusts: nothing.
-use borrow.Author.Rules.{rules}
-use borrow.Author.Tests.{eq-eqb, ne_eqb}
-use mathlib.Core.Path.{sym, ◌∙◌}
-use native.Mathlib.Nat.{sub-zero}
-use native.Mathlib.Omega.{arith}
-use Rattle.table.proofs.Laws.{limited_to_le, length_mapped}
+use mathlib.Core.Path.{◌∙◌}
+use lib.Dec.{eqb}
 use Rattle.table.specs.Table.{ucids_of}
 use Rattle.choice.specs.Choose.{lists_ucid}
-use Rattle.order.proofs.Search.{any_of_found, any_of_passed, any_of_end}
+use Rattle.order.proofs.Search.{any_of_listed, eqb_turned}
 use Rattle.choice.proofs.lists_ucid.Goals as goal
 
-pub loop-j-init : goal.loop-j-init
-unfolding lists_ucid ucids_of
-loop-j-init c =
-    (search rules, rw c.limited-n.ensures (limited_to_le 16 c.args.rule.ucidcount), search (rules, length_mapped), rw (sub-zero, c.limited-n.ensures))
-
-pub returns-then-n-j : goal.returns-then-n-j
-returns-then-n-j c = sym (any_of_end _ _ _ _ c.if-n-j.true) ∙ c.loop-j.invariant.3
-
-pub returns-then-ucid-rule : goal.returns-then-ucid-rule
-returns-then-ucid-rule c = sym (any_of_found _ _ _ _ _ c.if-n-j.false (omega arith) (eq-eqb _ _ c.if-ucid-rule.true)) ∙ c.loop-j.invariant.3
-
-pub loop-j-preserved : goal.loop-j-preserved
-loop-j-preserved c = let inv = c.loop-j.invariant in
-    (search rules, inv.1, inv.2, sym (any_of_passed _ _ _ _ _ c.if-n-j.false (omega arith) (ne_eqb _ _ c.if-ucid-rule.false)) ∙ inv.3)
-
 pub returns : goal.returns
-returns c = sym (any_of_end _ _ c.limited-n.result c.loop-j.j (omega arith)) ∙ c.loop-j.invariant.3
+unfolding lists_ucid ucids_of
+returns c = rw (← c.limited-count.ensures) (c.contains.ensures.value ∙ any_of_listed _ (eqb c.args.ucid) _ (λ x. eqb_turned x c.args.ucid))

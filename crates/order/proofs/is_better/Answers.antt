@@ -1,21 +1,14 @@
--- `order::is_better` gives `is_better`: none so far, then another priority, then the number.
+-- `order::is_better` gives `is_better`: none so far, then the two pairs in order.
 -- Trusts: nothing.
-use borrow.Author.Tests.{eq-eqb, ne_eqb, le-ltb}
-use mathlib.Core.Bool.{or-false}
-use native.Mathlib.Nat.{le_of_eq}
-use Rattle.order.specs.Best.{is_better, comes_before}
+use mathlib.Core.Path.{◌∙◌}
+use Rattle.order.specs.Best.{is_better}
+use Rattle.order.proofs.Order.{pairs_in_order}
 use Rattle.order.proofs.is_better.Goals as goal
 
-pub returns-then-best-eq32 : goal.returns-then-best-eq32
+pub returns-in-None : goal.returns-in-None
 unfolding is_better
-returns-then-best-eq32 c = simp (eq-eqb _ _ c.if-best-eq32.true)
+returns-in-None c = rw c.in-None.is
 
-pub returns-then-priority-best : goal.returns-then-priority-best
-unfolding is_better comes_before
-returns-then-priority-best c = simp (ne_eqb _ _ c.if-best-eq32.false, ne_eqb _ _ c.if-priority-best.true, or-false)
-
-pub returns : goal.returns
-unfolding is_better comes_before
-returns c =
-    let e = c.if-priority-best.false in
-    simp (ne_eqb _ _ c.if-best-eq32.false, eq-eqb _ _ e, le-ltb _ _ (le_of_eq e))
+pub returns-in-Some : goal.returns-in-Some
+unfolding is_better
+returns-in-Some c = rw c.in-Some.is (c.lt.ensures ∙ pairs_in_order c.args.priority c.args.number c.in-Some.best.priority c.in-Some.best.number)

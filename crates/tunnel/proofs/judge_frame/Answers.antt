@@ -16,4 +16,4 @@ returns-in-Err c =
 pub returns-in-Ok : goal.returns-in-Ok
 unfolding verdict_of choice_verdict chose
 returns-in-Ok c =
-    simp (c.judge_rule.ensures, c.rule_at-rule.ensures, ← c.wrong_length.ensures, c.if-wrong_length.false, ← c.choose_rule.ensures, c.in-Ok.is)
+    simp (c.judge_rule.ensures, c.rule_at.ensures, ← c.wrong_length.ensures, c.if-wrong_length.false, ← c.choose_rule.ensures, c.in-Ok.is)
