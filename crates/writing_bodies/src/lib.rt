@@ -39,8 +39,7 @@ fn lay_one(count: u8, number: u8, k: usize, piece: &[u8], out: &mut [u8])
 fn shorter(length: u16, left: usize) -> usize
     ensures { result ≡ limited_to left length }
 {
-    let n = length as usize;
-    if left < n { left } else { n }
+    left.min(length as usize)
 }
 
 // The bodies of all pieces: piece k has `lengths[k]` bytes of the message, behind those of the pieces before it.
@@ -49,11 +48,9 @@ pub fn lay_all(count: u8, number: u8, lengths: [u16; 16], message: &[u8], out: &
 {
     let bodies = table::limited(number, BODIES);
     let mut from = 0;
-    let mut k = 0;
-    while k < bodies {
-        let end = from + shorter(lengths[k], message.len() - from);
+    for (k, length) in lengths[..bodies].iter().enumerate() {
+        let end = from + shorter(*length, message.len() - from);
         lay_one(count, number, k, &message[from..end], out);
         from = end;
-        k += 1;
     }
 }

@@ -6,9 +6,10 @@
 --   adding_filled   the record takes another element
 --   adding_lined    the next element, as it was written     adding_size     and that it is short
 --   adding_more     one element more                   adding_all       after the last turn
+--   added_same      of the same entries
 -- Trusts: nothing.
 use Prim.Native.Nat.{ℕ, ◌+◌, ◌*◌, ◌-◌, ◌≤◌, ◌<◌}
-use mathlib.Core.Path.{◌≡◌, refl, sym, ap, ◌∙◌}
+use mathlib.Core.Path.{◌≡◌, refl, sym, ap, subst, ◌∙◌}
 use mathlib.Core.List.{List, [], ◌∷◌, ◌++◌, map, map-append}
 use native.Mathlib.Omega.{arith}
 use native.Mathlib.Numerals.{add-one}
@@ -83,3 +84,7 @@ module _ {A : Type 0} {most : ℕ} {line : A → List ℕ} {l : List A} {held : 
           cut = a.cut ∙ ap (λ (x : List A). cut_all m.cut (map length (map line x))) (take_all i l h);
           filled = a.filled;
         }
+
+-- the entries that are passed are those of the table
+pub added_same : {A : Type 0} {most : ℕ} {line : A → List ℕ} {xs l : List A} {held new : List ℕ} {m r : Message} → xs ≡ l → Added most line xs held m new r → Added most line l held m new r
+added_same {A} {most} {line} {xs} {l} {held} {new} {m} {r} same a = subst (λ (x : List A). Added most line x held m new r) same a

@@ -5,13 +5,15 @@
 // The private functions ask that their elements have room.
 #![tactic(auto)]
 
-ghost use Rattle.std.specs.Prelude.{◌≡◌, ◌≤◌, length};
+ghost use Rattle.std.specs.Prelude.{◌≡◌, ◌+◌, ◌*◌, ◌≤◌, length};
 ghost use Rattle.table.specs.Table.{classifiers_of, rules_of};
 ghost use Rattle.writing_elements.specs.Encode.{classifier_bytes, rule_bytes};
 ghost use Rattle.writing_message.specs.Message.{cut_on, message_in};
-ghost use Rattle.writing_message.specs.Filling.{Filled, Added};
+ghost use Rattle.writing_message.specs.Filling.{Filled, Line, PutsWithin, Added};
 
 use table::Table;
+use writing_classifiers::put_classifier;
+use writing_rules::put_rule;
 
 // The most bytes of the message in a piece.
 const PIECE_BYTES: usize = 1497;
@@ -52,23 +54,37 @@ fn add_element(cut: Cut, n: usize) -> Cut
     }
 }
 
+// An element for each entry of a list, behind what is there: `put` writes that of one, of at most MOST bytes, where it has room.
+fn put_entries<const MOST: usize, T: Copy, F: Fn(T, &mut [u8], usize) -> usize>(
+    entries: &[T],
+    put: F,
+    held: &mut [u8],
+    done: Message,
+) -> Message
+    ghost line: { Line MOST T }
+    requires few { (MOST ≤ 256) × (length entries.now ≤ 32) }
+    requires room { (length held.old ≡ 5632) × (done.length + MOST * 32 ≤ 5632) }
+    requires filled { Filled done.length done.cut }
+    requires puts { PutsWithin MOST line.bytes (F.pre put) (F.post put) }
+    ensures { Added (MOST * 32) line.bytes entries.now held.old done held.new result }
+{
+    let mut cut = done.cut;
+    let mut at = done.length;
+    for entry in entries {
+        let next = put(*entry, held, at);
+        cut = add_element(cut, next - at);
+        at = next;
+    }
+    Message { length: at, cut }
+}
+
 // The classifiers, behind what is there.
 fn put_classifiers(table: Table, held: &mut [u8], done: Message) -> Message
     requires { (length held.old ≡ 5632) × (done.length ≤ 210) × Filled done.length done.cut }
     ensures { Added 1184 classifier_bytes (classifiers_of table) held.old done held.new result }
 {
     let n = table::limited(table.classifiercount, table::CLASSIFIERS);
-    let mut cut = done.cut;
-    let mut at = done.length;
-    let mut i = 0;
-    while i < n {
-        let classifier = table.classifiers[i];
-        let next = writing_classifiers::put_classifier(classifier, held, at);
-        cut = add_element(cut, next - at);
-        at = next;
-        i += 1;
-    }
-    Message { length: at, cut }
+    put_entries::<37, _, _>(&table.classifiers[..n], put_classifier, held, done)
 }
 
 // The rules, behind what is there.
@@ -77,17 +93,7 @@ fn put_rules(table: Table, held: &mut [u8], done: Message) -> Message
     ensures { Added 4224 rule_bytes (rules_of table) held.old done held.new result }
 {
     let n = table::limited(table.rulecount, table::RULES);
-    let mut cut = done.cut;
-    let mut at = done.length;
-    let mut i = 0;
-    while i < n {
-        let rule = table.rules[i];
-        let next = writing_rules::put_rule(rule, held, at);
-        cut = add_element(cut, next - at);
-        at = next;
-        i += 1;
-    }
-    Message { length: at, cut }
+    put_entries::<132, _, _>(&table.rules[..n], put_rule, held, done)
 }
 
 // The message of a table at the start of an array: the configuration, the classifiers, the rules.

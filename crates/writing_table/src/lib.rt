@@ -31,10 +31,8 @@ fn body_lengths(number: usize, pieces: [u16; 16]) -> [u16; 16]
     ensures { result ≡ padded 16 0 (map (λ n. n + 3) (take number pieces)) }
 {
     let mut lengths = [0u16; 16];
-    let mut k = 0;
-    while k < number {
+    for k in 0..number {
         lengths[k] = pieces[k] + HEAD_BYTES;
-        k += 1;
     }
     lengths
 }

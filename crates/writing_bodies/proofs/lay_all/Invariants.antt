@@ -1,12 +1,9 @@
--- `writing_bodies::lay_all` lays every body (`Laying`); what is left of the pieces falls.
+-- `writing_bodies::lay_all` lays every body (`Laying`).
 -- Trusts: nothing.
-use Rattle.std.proofs.Common.{◌-◌, take}
+use Rattle.std.proofs.Common.{take}
 use Rattle.table.specs.Table.{limited_to}
 use Rattle.writing_bodies.proofs.Turn.{Laying}
 use Rattle.writing_bodies.proofs.lay_all.Given as goal
 
 abbrev pub invariant-loop-k : goal.invariant-loop-k
-invariant-loop-k l = Laying l.count l.number (take (limited_to 16 l.number) l.lengths) l.message l.initial.out l.out l.from l.k
-
-abbrev pub decreases-loop-k : goal.decreases-loop-k
-decreases-loop-k l = l.bodies - l.k
+invariant-loop-k l = Laying l.count l.number (take (limited_to 16 l.number) l.fn.lengths) l.message l.initial.out l.out l.from l.k

@@ -1,46 +1,12 @@
--- `writing_message::put_classifiers` writes the classifiers one behind the other: another classifier is one of at most 32, and is short.
+-- `writing_message::put_classifiers`: the entries that are passed are those of `classifiers_of`.
 -- Trusts: nothing.
-use Rattle.std.proofs.Common.{ℕ, List, ◌≡◌, ◌≤◌, ◌<◌, sym, ◌∙◌, length, arith, rules}
-use Rattle.table.specs.declared.Table.{Table}
+use Rattle.std.proofs.Common.{◌≡◌, ℕ, take, ap}
 use Rattle.table.specs.Table.{classifiers_of}
-use Rattle.table.proofs.Laws.{length-classifiers_of, length-classifiers_of_le, classifiers_of-at, length_mapped}
-use Rattle.writing_elements.specs.Encode.{classifier_bytes}
-use Rattle.writing_elements.proofs.Sizes.{classifier-most}
-use Rattle.writing_message.specs.declared.Message.{Message}
-use Rattle.writing_message.proofs.Turns.{Begun, adding_none, adding_filled, adding_size, adding_more, adding_all}
+use Rattle.writing_message.proofs.Turns.{added_same}
 use Rattle.writing_message.proofs.put_classifiers.Goals as goal
 
--- what the loop is begun with
-begun : (t : Table) (held : List ℕ) (done : Message) → length held ≡ 5632 → done.length ≤ 210 → Begun 37 classifier_bytes (classifiers_of t) held done
-begun t held done size room = record { short = classifier-most; small = omega arith; few = length-classifiers_of_le t; size = size; room = omega arith }
-
-pub loop-i-init : goal.loop-i-init
-loop-i-init c = adding_none c.requires.2
-
--- the classifier that was written is short
-pub overflow_sub-next : goal.overflow_sub-next
-overflow_sub-next c =
-    let b = begun c.args.table c.args.held.now c.args.done c.requires.0 c.requires.1 in
-    let count = c.limited-n.ensures ∙ sym (length-classifiers_of c.args.table (search (rules, length_mapped))) in
-    let below : c.loop-i.i < length (classifiers_of c.args.table) = omega arith in
-    (adding_size b c.loop-i.invariant below _ c.put_classifier-next.ensures).0
-
-pub add_element-cut-requires : goal.add_element-cut-requires
-add_element-cut-requires c =
-    let b = begun c.args.table c.args.held.now c.args.done c.requires.0 c.requires.1 in
-    let count = c.limited-n.ensures ∙ sym (length-classifiers_of c.args.table (search (rules, length_mapped))) in
-    let below : c.loop-i.i < length (classifiers_of c.args.table) = omega arith in
-    ((adding_size b c.loop-i.invariant below _ c.put_classifier-next.ensures).1, adding_filled b c.loop-i.invariant below)
-
-pub loop-i-preserved : goal.loop-i-preserved
-loop-i-preserved c =
-    let b = begun c.args.table c.args.held.now c.args.done c.requires.0 c.requires.1 in
-    let count = c.limited-n.ensures ∙ sym (length-classifiers_of c.args.table (search (rules, length_mapped))) in
-    let below : c.loop-i.i < length (classifiers_of c.args.table) = omega arith in
-    adding_more b c.loop-i.invariant below _ c.put_classifier-next.ensures _ (classifiers_of-at _ _ _ below) c.add_element-cut.ensures
-
 pub returns : goal.returns
+unfolding classifiers_of
 returns c =
-    let b = begun c.args.table c.args.held.now c.args.done c.requires.0 c.requires.1 in
-    let count = c.limited-n.ensures ∙ sym (length-classifiers_of c.args.table (search (rules, length_mapped))) in
-    adding_all b c.loop-i.invariant (omega arith)
+    let same : take c.limited-n.result c.args.table.classifiers ≡ classifiers_of c.args.table = ap (λ (k : ℕ). take k c.args.table.classifiers) c.limited-n.ensures in
+    added_same same c.put_entries.ensures

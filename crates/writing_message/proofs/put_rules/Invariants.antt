@@ -1,14 +1,8 @@
--- `writing_message::put_rules` writes the rules one behind the other and adds them to the record of the pieces (`Adding`); what is left of
--- the rules falls.
+-- `writing_message::put_rules` has `put_entries` write `rule_bytes` of each entry, which is short.
 -- Trusts: nothing.
-use Rattle.std.proofs.Common.{◌-◌}
-use Rattle.table.specs.Table.{rules_of}
 use Rattle.writing_elements.specs.Encode.{rule_bytes}
-use Rattle.writing_message.proofs.Turns.{Adding}
+use Rattle.writing_elements.proofs.Sizes.{rule-most}
 use Rattle.writing_message.proofs.put_rules.Given as goal
 
-abbrev pub invariant-loop-i : goal.invariant-loop-i
-invariant-loop-i l = Adding 132 rule_bytes (rules_of l.table) l.initial.held (record { length = l.initial.at; cut = l.initial.cut }) l.i l.held l.at l.cut
-
-abbrev pub decreases-loop-i : goal.decreases-loop-i
-decreases-loop-i l = l.n - l.i
+abbrev pub ghost-put_entries : goal.ghost-put_entries
+ghost-put_entries a = record { bytes = rule_bytes; short = rule-most }

@@ -1,5 +1,5 @@
 -- `writing_table::body_lengths` gives the lengths with their heads. The loop's invariant: the first k places hold those of the first k pieces,
--- the others 0; what is left of the pieces falls.
+-- the others 0.
 -- Trusts: nothing.
 use Prim.Native.Nat.{◌+◌}
 use mathlib.Core.Path.{◌≡◌, refl, ap, ◌∙◌}

@@ -1,7 +1,7 @@
 -- `writing_table::body_lengths` gives the lengths with their heads. The loop's invariant: the first k places hold those of the first k pieces,
--- the others 0; what is left of the pieces falls.
+-- the others 0.
 -- Trusts: nothing.
-use Prim.Native.Nat.{◌-◌, ◌≤◌}
+use Prim.Native.Nat.{◌≤◌}
 use mathlib.Core.Path.{◌≡◌}
 use mathlib.Core.List.{map}
 use lib.ListN.{take}
@@ -11,6 +11,3 @@ use Rattle.writing_table.proofs.body_lengths.Given as goal
 
 abbrev pub invariant-loop-k : goal.invariant-loop-k
 invariant-loop-k l = (l.k ≤ l.number) × (l.lengths ≡ padded 16 0 (map with_head (take l.k l.pieces)))
-
-abbrev pub decreases-loop-k : goal.decreases-loop-k
-decreases-loop-k l = l.number - l.k
