@@ -1,8 +1,8 @@
 // Whether an entry of a lent table is one that reading could have left there: what refusal 19 asks of one rule and of one classifier.
 //
-// Four public functions, which take any entry: `is_sound_rule` and `is_sound_classifier` say whether a used one could have been read,
-// `is_unused_rule` and `is_unused_classifier` whether it is 0 throughout. They write nothing. `&` works out both of its sides, so that
-// the tests of an entry cost no branch each.
+// Four public functions take any entry: `is_sound_rule` and `is_sound_classifier` say whether a used one could have been read,
+// `is_unused_rule` and `is_unused_classifier` whether it is 0 throughout. `places_fit` tests each place of a list by a function that is
+// passed in. They write nothing. `&` works out both of its sides, so that the tests of an entry cost no branch each.
 #![tactic(auto)]
 
 ghost use Rattle.std.specs.Prelude.{◌≡◌, Bool, cond, not, drop};
