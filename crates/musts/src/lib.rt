@@ -16,6 +16,7 @@ const MUST: bool = true;
 const FREE: bool = false;
 
 // The need.
+// Kept: the column of needs by itself, since test 13 alone reads it, and the look-up of an element would carry it along.
 const NEEDS: [bool; 26] = [
     FREE, // 23
     FREE, // 50
