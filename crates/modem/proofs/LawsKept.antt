@@ -11,6 +11,7 @@ use mathlib.Core.Bool.{Bool, true, false, cond, not, ◌&&◌, ◌||◌, true≢
 use native.Mathlib.Omega.{arith}
 use lib.Dec.{ltb, eqb}
 use borrow.Author.Tests.{ltb-false, eqb-true, not-true, not-false, le-ltb, eq-eqb}
+use Rattle.std.proofs.lemmas.Bool.{or_parts}
 use Rattle.modem_record.specs.declared.Modem.{Modem}
 use Rattle.modem_record.specs.States.{Marked, is_at, receive_of, retry_of, loaded}
 use Rattle.modem_record.specs.Record.{receive_mark, retry_mark, ucid_mark, least_permission, is_over, is_spoilt, is_broken, well_kept, counts_idle, moved}
@@ -67,11 +68,7 @@ well_kept→Kept m h = is_broken→Kept m (not-true (is_broken m) h)
 
 pub counts_idle→Kept : (m : Modem) → counts_idle m ≡ false → Kept m
 unfolding counts_idle
-counts_idle→Kept m h = is_broken→Kept m (go (is_at 0 m) (is_broken m) h)
-  where
-    go : (a b : Bool) → a || b ≡ false → b ≡ false
-    go true b k = absurd (true≢false k)
-    go false b k = k
+counts_idle→Kept m h = is_broken→Kept m (or_parts (is_at 0 m) (is_broken m) h).1
 
 pub Kept→well_kept : (m : Modem) → Kept m → well_kept m ≡ true
 unfolding well_kept is_broken
