@@ -6,74 +6,52 @@
 // walk changes one local.
 #![tactic(auto)]
 
-ghost use Rattle.std.specs.Prelude.{◌≡◌, ◌+◌, ◌≤◌, length};
-ghost use Rattle.table.specs.Table.{empty_classifier};
-ghost use Rattle.children.specs.Rows.{row_in, row_fold};
-ghost use Rattle.classifiers.specs.Classifiers.{with_part_child, with_part, with_classifier_child, classifier_at};
+ghost use Rattle.std.specs.Prelude.{◌≡◌};
+ghost use Rattle.classifiers.specs.Classifiers.{with_part, classifier_at};
 
 use table::Classifier;
-
-// The classifier with the child of 23.9 at `at` taken up.
-fn with_part_child(message: &[u8], at: usize, len: usize, given: Classifier) -> Classifier
-    requires { at + 2 ≤ length message.now }
-    ensures { result ≡ with_part_child message.now at len given }
-{
-    let mut classifier = given;
-    let value = at + 2;
-    match message[at] {
-        3 => {
-            classifier.source = numbers::number4(message, value);
-            classifier.hassource = 1;
-        }
-        4 => {
-            classifier.mask = numbers::number4(message, value);
-            classifier.hasmask = 1;
-        }
-        5 => {
-            classifier.destination = numbers::number4(message, value);
-        }
-        9 => {
-            classifier.start = numbers::number2(message, value);
-            classifier.hasstart = 1;
-        }
-        10 => {
-            classifier.end = numbers::number2(message, value);
-            classifier.hasend = 1;
-        }
-        _ => {}
-    }
-    classifier
-}
 
 // The classifier with the IP part, the row `from` to `end`, taken up.
 fn with_part(message: &[u8], from: usize, end: usize, given: Classifier) -> Classifier
     ensures { result ≡ with_part message.now from end given }
 {
     let mut classifier = given;
-    let mut at = from;
-    loop {
-        let Some(len) = elements::value_at(message, at, end) else {
-            return classifier;
-        };
-        classifier = with_part_child(message, at, len, classifier);
-        at = at + 2 + len;
+    for child in children::children_of(message, from, end) {
+        let value = child.at + 2;
+        match child.kind {
+            3 => {
+                classifier.source = numbers::number4(message, value);
+                classifier.hassource = 1;
+            }
+            4 => {
+                classifier.mask = numbers::number4(message, value);
+                classifier.hasmask = 1;
+            }
+            5 => {
+                classifier.destination = numbers::number4(message, value);
+            }
+            9 => {
+                classifier.start = numbers::number2(message, value);
+                classifier.hasstart = 1;
+            }
+            10 => {
+                classifier.end = numbers::number2(message, value);
+                classifier.hasend = 1;
+            }
+            _ => {}
+        }
     }
+    classifier
 }
 
-// The classifier of the row `from` to `end`.
-fn classifier_in(message: &[u8], from: usize, end: usize) -> Classifier
-    ensures { result ≡ row_fold (with_classifier_child message.now) (row_in message.now from end) empty_classifier }
+// The classifier of the element at `at`.
+pub fn classifier_at(message: &[u8], at: usize) -> Classifier
+    ensures { result ≡ classifier_at message.now at }
 {
     let mut classifier = table::empty_classifier();
-    let mut at = from;
-    loop {
-        let Some(len) = elements::value_at(message, at, end) else {
-            return classifier;
-        };
-        let kind = message[at];
-        let value = at + 2;
-        at = value + len;
-        match kind {
+    for child in children::inside(message, at) {
+        let value = child.at + 2;
+        match child.kind {
             2 => {
                 classifier.number = numbers::number2(message, value);
             }
@@ -81,20 +59,10 @@ fn classifier_in(message: &[u8], from: usize, end: usize) -> Classifier
                 classifier.priority = numbers::number1(message, value);
             }
             9 => {
-                classifier = with_part(message, value, at, classifier);
+                classifier = with_part(message, value, value + child.len, classifier);
             }
             _ => {}
         }
     }
-}
-
-// The classifier of the element at `at`.
-pub fn classifier_at(message: &[u8], at: usize) -> Classifier
-    ensures { result ≡ classifier_at message.now at }
-{
-    let Some(len) = elements::value_at(message, at, message.len()) else {
-        return table::empty_classifier();
-    };
-    let value = at + 2;
-    classifier_in(message, value, value + len)
+    classifier
 }

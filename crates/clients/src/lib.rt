@@ -60,18 +60,13 @@ pub fn read_clients(message: &[u8], from: usize, end: usize) -> Clients
     ensures { result ≡ clients_in message.now from end }
 {
     let mut clients = no_clients();
-    let mut at = from;
-    loop {
-        let Some(len) = elements::value_at(message, at, end) else {
-            return clients;
-        };
-        let here = at;
-        at = here + 2 + len;
+    for child in children::children_of(message, from, end) {
         let used = clients.count;
-        if is_client(message[here]) && used < 8 {
-            let one = client_at(message, here, len);
+        if is_client(child.kind) && used < 8 {
+            let one = client_at(message, child.at, child.len);
             clients.list[used as usize] = one;
             clients.count = used + 1;
         }
     }
+    clients
 }

@@ -7,8 +7,7 @@
 #![tactic(auto)]
 
 ghost use Rattle.std.specs.Prelude.{◌≡◌, ◌+◌, ◌≤◌, length};
-ghost use Rattle.children.specs.Rows.{row_in, row_fold};
-ghost use Rattle.configurations.specs.Configurations.{empty_configuration, with_timer, with_configuration_child, configuration_at};
+ghost use Rattle.configurations.specs.Configurations.{empty_configuration, with_timer, configuration_at};
 
 use table::TimerValues;
 
@@ -62,39 +61,22 @@ fn with_timer(message: &[u8], at: usize, given: TimerValues) -> TimerValues
     timers
 }
 
-// The configuration of the row `from` to `end`.
-fn configuration_in(message: &[u8], from: usize, end: usize) -> Configuration
-    ensures { result ≡ row_fold (with_configuration_child message.now) (row_in message.now from end) empty_configuration }
-{
-    let mut configuration = empty_configuration();
-    let mut at = from;
-    loop {
-        let Some(len) = elements::value_at(message, at, end) else {
-            return configuration;
-        };
-        let here = at;
-        at = here + 2 + len;
-        if message[here] != 1 {
-            let timers = configuration.timers;
-            configuration.timers = with_timer(message, here, timers);
-            continue;
-        }
-        let n = configuration.channelcount;
-        if n < 32 {
-            let channel = numbers::number4(message, here + 2);
-            configuration.channels[n as usize] = channel;
-            configuration.channelcount = n + 1;
-        }
-    }
-}
-
 // The configuration of the element at `at`.
 pub fn configuration_at(message: &[u8], at: usize) -> Configuration
     ensures { result ≡ configuration_at message.now at }
 {
-    let Some(len) = elements::value_at(message, at, message.len()) else {
-        return empty_configuration();
-    };
-    let value = at + 2;
-    configuration_in(message, value, value + len)
+    let mut configuration = empty_configuration();
+    for child in children::inside(message, at) {
+        if child.kind != 1 {
+            let timers = configuration.timers;
+            configuration.timers = with_timer(message, child.at, timers);
+            continue;
+        }
+        let n = configuration.channelcount;
+        if n < 32 {
+            configuration.channels[n as usize] = numbers::number4(message, child.at + 2);
+            configuration.channelcount = n + 1;
+        }
+    }
+    configuration
 }

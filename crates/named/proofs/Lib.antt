@@ -1,7 +1,6 @@
--- Lists: a list that is walked. LawsLone: test 15's search. LawsPlaces: where elements of a type stand. Laws: what a caller learns
+-- Lists: a list that is walked. LawsLone: test 15's search. Laws: what a caller learns
 -- of test 15. Sought: the paper's words tell its answers apart.
 pub mod Lists
 pub mod LawsLone
-pub mod LawsPlaces
 pub mod Laws
 pub mod Sought

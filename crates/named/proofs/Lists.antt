@@ -1,9 +1,9 @@
 -- Lists of which the first n are used: what stands next on a walk over them.
 --
 --   front-next   at place i of the first n      front-end   past the last of them
---   get_or_later   the n-th but for the first     map-append  what a joined list is mapped to
+--   map-append   what a joined list is mapped to
 -- Trusts: nothing.
-use Prim.Native.Nat.{ℕ, zero, suc, ◌+◌, ◌-◌, ◌≤◌, ◌<◌}
+use Prim.Native.Nat.{ℕ, ◌+◌, ◌≤◌, ◌<◌}
 use mathlib.Core.Path.{◌≡◌, refl, sym, ap, ◌∙◌}
 use mathlib.Core.List.{List, [], ◌∷◌, ◌++◌, map}
 use native.Mathlib.Omega.{arith}
@@ -19,11 +19,6 @@ module _ {A : Type 0} (l : List A) (d : A) (n i : ℕ) (h : i < n) (k : n ≤ le
 
 pub front-end : {A : Type 0} (l : List A) (n i : ℕ) → n ≤ i → drop i (take n l) ≡ []
 front-end l n i h = drop_of_length-le (take n l) {i = i} (simp length-take (omega arith))
-
--- the n-th but for the first
-pub get_or_later : (x : ℕ) (xs : List ℕ) (n : ℕ) → (n ≡ 0 → ⊥) → get_or xs (n - 1) 0 ≡ get_or (x ∷ xs) n 0
-get_or_later x xs zero h = absurd (h refl)
-get_or_later x xs (suc n) h = ap (λ (j : ℕ). get_or xs j 0) (omega arith)
 
 pub map-append : {A B : Type 0} (f : A → B) (s t : List A) → map f (s ++ t) ≡ map f s ++ map f t
 map-append f [] t = refl

@@ -5,11 +5,12 @@
 #![tactic(auto)]
 
 ghost use Rattle.std.specs.Prelude.{◌≡◌, ◌≤◌, length, get_or};
-ghost use Rattle.children.specs.Rows.{row_in, places_of};
+ghost use Rattle.children.specs.Children.{left, places_in};
 ghost use Rattle.table.specs.Table.{limited_to};
 ghost use Rattle.named.specs.Named.{unanswered, named_place, lone_number};
 ghost use Rattle.named.specs.Sought.{sought};
 
+use children::Children;
 use table::{Rule, Table};
 
 // Whether every classifier number that the rules name is carried by a classifier.
@@ -30,37 +31,30 @@ pub enum Found {
     Number(usize, usize),
 }
 
-// Where the n-th element of this type (counted from 0) stands in the row `from` to `end`; 0 if there are fewer.
-fn nth_place(message: &[u8], from: usize, end: usize, kind: u8, n: usize) -> usize
-    ensures { result ≡ get_or (places_of message.now kind (row_in message.now from end)) n 0 }
+// Where the n-th of these elements of this type stands, counted from 0; 0 if there are fewer.
+fn nth_place(elements: Children, kind: u8, n: usize) -> usize
+    ensures { result ≡ get_or (places_in kind (left elements.entry)) n 0 }
 {
-    let mut left = n;
-    let mut at = from;
-    loop {
-        let Some(len) = elements::value_at(message, at, end) else {
-            return 0;
-        };
-        let here = at;
-        at = here + 2 + len;
-        if message[here] != kind {
-            continue;
+    // Kept: a count in place of `filter` and `nth`, of which the check did not find `get_or` of the filtered list.
+    let mut before = n;
+    for child in elements {
+        if child.kind == kind {
+            if before == 0 {
+                return child.at;
+            }
+            before -= 1;
         }
-        if left == 0 {
-            return here;
-        }
-        left -= 1;
     }
+    0
 }
 
 // Where the j-th 50.6 of the i-th rule stands.
 fn named_place(message: &[u8], i: usize, j: usize) -> usize
     ensures { result ≡ named_place message.now i j }
 {
-    let rule = nth_place(message, 0, message.len(), 50, i);
-    let Some(len) = elements::value_at(message, rule, message.len()) else {
-        return 0;
-    };
-    nth_place(message, rule + 2, rule + 2 + len, 6, j)
+    let rules = children::children_of(message, 0, message.len());
+    let rule = nth_place(rules, 50, i);
+    nth_place(children::inside(message, rule), 6, j)
 }
 
 // How many classifier numbers a rule names, which has room for eight.

@@ -1,14 +1,10 @@
--- `clients::read_clients` gives clients_in.
--- The loop keeps that the fold from `at` on, over what it has, is the fold from the start; what is left falls.
+-- `clients::read_clients` gives clients_in: every turn is one more step of the fold.
 -- Trusts: nothing.
-use Prim.Native.Nat.{◌-◌}
-use mathlib.Core.Path.{◌≡◌}
-use Rattle.children.specs.Rows.{row_fold, row_in}
-use Rattle.clients.specs.Clients.{with_client_child, clients_in}
+use Rattle.children.specs.Rows.{row_in}
+use Rattle.children.specs.Children.{left}
+use Rattle.children.proofs.Walked.{Walked}
+use Rattle.clients.specs.Clients.{no_clients, with_client_child}
 use Rattle.clients.proofs.read_clients.Given as goal
 
-abbrev pub invariant-loop-len : goal.invariant-loop-len
-invariant-loop-len l = row_fold (with_client_child l.message) (row_in l.message l.at l.end) l.clients ≡ clients_in l.message l.from l.end
-
-abbrev pub decreases-loop-len : goal.decreases-loop-len
-decreases-loop-len l = l.end - l.at
+abbrev pub invariant-loop-child : goal.invariant-loop-child
+invariant-loop-child l = Walked (with_client_child l.message) l.message (row_in l.message l.from l.end) no_clients (left l.child-iterator) l.clients

@@ -1,13 +1,9 @@
--- `named::nth_place` gives the n-th of places_of. The loop keeps that the place it looks for is the one that is `left` places on from `at`.
+-- `named::nth_place` gives the n-th place. The loop keeps that the place it looks for is the one that is `before` places on in what is left.
 -- Trusts: nothing.
-use Prim.Native.Nat.{◌-◌}
 use mathlib.Core.Path.{◌≡◌}
 use lib.ListN.{get_or}
-use Rattle.children.specs.Rows.{row_in, places_of}
+use Rattle.children.specs.Children.{left, places_in}
 use Rattle.named.proofs.nth_place.Given as goal
 
-abbrev pub invariant-loop-len : goal.invariant-loop-len
-invariant-loop-len l = get_or (places_of l.message l.kind (row_in l.message l.at l.end)) l.left 0 ≡ get_or (places_of l.message l.kind (row_in l.message l.from l.end)) l.n 0
-
-abbrev pub decreases-loop-len : goal.decreases-loop-len
-decreases-loop-len l = l.end - l.at
+abbrev pub invariant-loop-child : goal.invariant-loop-child
+invariant-loop-child l = get_or (places_in l.kind (left l.child-iterator)) l.before 0 ≡ get_or (places_in l.kind (left l.fn.elements)) l.n 0
