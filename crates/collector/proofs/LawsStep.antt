@@ -21,8 +21,7 @@ use lib.Dec.{eqb}
 use Rattle.collector.specs.Answers.{Said, refused, again, waiting, complete, dropped}
 use Rattle.collection.specs.Record.{empty_collection}
 use Rattle.cuts.specs.Cuts.{ruling, cuts_in}
-use Rattle.cuts.specs.declared.Cuts.{Cuts}
-use Rattle.cuts.specs.declared.Cuts.TheVariants.{Good, Bad}
+use Rattle.std.proofs.Common.{Option, Some, None}
 use Rattle.held.specs.Held.{empty_slots}
 use Rattle.joining.specs.Pieces.{joined}
 use Rattle.relation.specs.Relation.{goes_on, repeats, anew, relation_to}
@@ -99,12 +98,12 @@ module _ (r : Collection) (join : List ℕ) (size : ℕ) (fits : size ≤ length
   unfolding settled
   settled_loose e = simp (eq-eqb r.strict 0 e, length-take-le size join fits)
 
-  module _ (ne : r.strict ≡ 0 → ⊥) {u : Cuts} (e : ruling u ≡ cuts_in message r.lengths r.number) where
-    pub settled_good : u ≡ Good → settled_as (complete size) r ≡ settled r message
+  module _ (ne : r.strict ≡ 0 → ⊥) {u : Option ℕ} (e : ruling u ≡ cuts_in message r.lengths r.number) where
+    pub settled_good : u ≡ None → settled_as (complete size) r ≡ settled r message
     unfolding settled
     settled_good g = simp (ne_eqb r.strict 0 ne, ← e, g, length-take-le size join fits)
 
-    pub settled-bad : {cut : ℕ} → u ≡ Bad cut → settled_as (dropped cut) (empty_collection r.strict 0 0) ≡ settled r message
+    pub settled-bad : {cut : ℕ} → u ≡ Some cut → settled_as (dropped cut) (empty_collection r.strict 0 0) ≡ settled r message
     unfolding settled
     settled-bad g = simp (ne_eqb r.strict 0 ne, ← e, g)
 

@@ -16,7 +16,6 @@ ghost use Rattle.collector.specs.Duties.{Parts, stored_step, held_after};
 ghost use Rattle.collector.specs.Step.{settled, finished, collect_step};
 
 use collection::Collection;
-use cuts::Cuts;
 use refusals::Refusal;
 use relation::Relation;
 
@@ -85,8 +84,8 @@ fn settle(next: Collection, join: &[u8], size: usize) -> Answer
     let lengths = next.lengths;
     let n = next.number as usize;
     match cuts::judge_cuts(&join[..size], lengths, n) {
-        Cuts::Good => Answer::Complete(size),
-        Cuts::Bad(cut) => Answer::Dropped(cut),
+        None => Answer::Complete(size),
+        Some(cut) => Answer::Dropped(cut),
     }
 }
 

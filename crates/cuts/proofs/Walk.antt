@@ -2,12 +2,14 @@
 --
 --   Walk msg lens n cut k    piece k begins at `cut`, which a walk over whole elements reaches; the cuts behind it are left to judge
 --   walk_start               before the first turn
---   walk_end, walk_past      no cut is left; no piece has bytes behind the sixteenth
+--   walk_over                no cut is left (walk_end), or no piece has bytes behind the sixteenth (walk_past)
 --   walk_beyond, walk_free, walk_bad, walk_next     the next cut is past the message's end; behind a place where no element stands; inside an element; good
 -- Trusts: nothing.
-use Prim.Native.Nat.{ℕ, suc, ◌+◌, ◌-◌, ◌≤◌, ◌<◌}
+use Prim.Native.Nat.{ℕ, suc, ◌+◌, ◌-◌, ◌≤◌, ◌<◌, min}
 use mathlib.Core.Path.{◌≡◌, refl, sym, ◌∙◌}
-use mathlib.Core.Bool.{true}
+use mathlib.Core.Bool.{Bool, true, false}
+use borrow.Author.Tests.{leb-true, leb-false}
+use lib.Dec.{leb}
 use mathlib.Core.List.{List}
 use native.Mathlib.Omega.{arith}
 use native.Mathlib.Numerals.{add-one}
@@ -30,13 +32,21 @@ unfolding sum_to cuts_in
 walk_start msg lens n = record { begins = refl; reached = first; rest = let z : n - 1 - 0 ≡ n - 1 = omega arith in rw z refl }
 
 module _ (msg lens : List ℕ) (n cut k : ℕ) (w : Walk msg lens n cut k) where
-  pub walk_end : n ≤ k + 1 → all_good ≡ cuts_in msg lens n
+  walk_end : n ≤ k + 1 → all_good ≡ cuts_in msg lens n
   unfolding cuts_from
   walk_end l = let z : n - 1 - k ≡ 0 = omega arith in sym (w.rest ∙ rw z refl)
 
-  pub walk_past : length lens ≤ k → all_good ≡ cuts_in msg lens n
+  walk_past : length lens ≤ k → all_good ≡ cuts_in msg lens n
   walk_past l =
       sym (w.rest ∙ cuts_from_past msg lens (n - 1 - k) k (λ j q. get_or-eq_default lens 0 (omega arith)) (rw (← w.begins) (reached_may msg cut w.reached)))
+
+  -- no cut is left that is judged
+  pub walk_over : min (n - 1) (length lens) ≤ k → all_good ≡ cuts_in msg lens n
+  walk_over h = go (leb n (k + 1)) refl
+    where
+      go : (b : Bool) → leb n (k + 1) ≡ b → all_good ≡ cuts_in msg lens n
+      go true e = walk_end (leb-true n (k + 1) e)
+      go false e = walk_past (let l = leb-false n (k + 1) e in omega arith)
 
   -- the next cut, at `to`
   module _ (more : k + 1 < n) (len to : ℕ) (e : len ≡ get_or lens k 0) (f : to ≡ cut + len) where

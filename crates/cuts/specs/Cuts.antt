@@ -11,18 +11,16 @@
 -- Tested by: proofs/Reached.antt, which says the same by a walk; M cut after 10 and after 22 bytes in proofs/BenchStrict.antt of
 -- collector_demands; cuttings of every kind against the other program in host/.
 -- Trusts: nothing.
-use Rattle.std.specs.Prelude.{ℕ, zero, suc, ◌+◌, ◌-◌, Bool, false, cond, ◌||◌, List, length, get_or, eqb, ltb}
+use Rattle.std.specs.Prelude.{ℕ, zero, suc, ◌+◌, ◌-◌, Bool, false, cond, ◌||◌, List, length, get_or, eqb, ltb, Option, Some, None}
 use Rattle.children.specs.Rows.{Row, done, bad, item, row_in}
-use Rattle.cuts.specs.declared.Cuts.{Cuts}
-use Rattle.cuts.specs.declared.Cuts.TheVariants.{Good, Bad}
 
 pub data Ruling : Type 0 where
   all_good : Ruling
   bad_at : ℕ → Ruling
 
-abbrev pub ruling : Cuts → Ruling
-ruling Good = all_good
-ruling (Bad cut) = bad_at cut
+abbrev pub ruling : Option ℕ → Ruling
+ruling None = all_good
+ruling (Some cut) = bad_at cut
 
 unfoldable pub starts_at : Row → ℕ → Bool
 starts_at done c = false

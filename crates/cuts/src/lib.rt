@@ -8,15 +8,6 @@ ghost use Rattle.std.specs.Prelude.{◌≡◌, ◌≤◌, length};
 ghost use Rattle.cuts.specs.Cuts.{ruling, cuts_in};
 ghost use Rattle.cuts.specs.Duties.{Passed};
 
-// What the cuts of a message come to.
-#[derive(Clone, Copy)]
-pub enum Cuts {
-    // Each is where a piece may end.
-    Good,
-    // The first that is not stands at this byte of the message.
-    Bad(usize),
-}
-
 // Passes whole elements from the start `from` on that end at the cut or before it: where the first stands that does not, or
 // the cut. `place` is that of a length byte: what is carried on is not the start, so that the next one is read as soon as this
 // one is known.
@@ -42,33 +33,25 @@ fn pass_elements(message: &[u8], from: usize, cut: usize) -> usize
     }
 }
 
-// Judges the cuts between the first `n` pieces of a message: pieces of these lengths, one behind the other; from the
-// seventeenth on they have no bytes. Piece k begins at `cut`, where an element starts, or the message ends. The head at which
+// The first bad cut between the first `n` pieces of a message, as a place in it: pieces of these lengths, one behind the other; from
+// the seventeenth on they have no bytes. A piece begins at `cut`, where an element starts, or the message ends. The head at which
 // the walk stops may be read twice, every other once.
-pub fn judge_cuts(message: &[u8], lengths: [u16; 16], n: usize) -> Cuts
+pub fn judge_cuts(message: &[u8], lengths: [u16; 16], n: usize) -> Option<usize>
     ensures { ruling result ≡ cuts_in message.now lengths n }
 {
+    let judged = n.saturating_sub(1).min(16);
     let mut cut = 0;
-    let mut k = 0;
-    loop {
-        if n <= k + 1 {
-            return Cuts::Good;
-        }
-        if 16 <= k {
-            return Cuts::Good;
-        }
+    for length in &lengths[..judged] {
         let from = cut;
-        cut += lengths[k] as usize;
-        k += 1;
+        cut += usize::from(*length);
         if message.len() < cut {
-            return Cuts::Good;
+            return None;
         }
         let at = pass_elements(message, from, cut);
         if at < cut {
-            let Some(_) = elements::value_at(message, at, message.len()) else {
-                return Cuts::Good;
-            };
-            return Cuts::Bad(cut);
+            elements::value_at(message, at, message.len())?;
+            return Some(cut);
         }
     }
+    None
 }

@@ -19,6 +19,9 @@ use Rattle.table.proofs.empty_classifier.Reads as empty_classifier_contract
 use Rattle.table.proofs.empty_table.Reads as empty_table_contract
 use Rattle.elements.proofs.read_head.Reads as read_head_contract
 use Rattle.elements.proofs.value_at.Reads as value_at_contract
+use Rattle.children.specs.Children.{left}
+use Rattle.children.proofs.children_of.Reads as children_of_contract
+use Rattle.children.proofs.inside.Reads as inside_contract
 use Rattle.types.proofs.find_type.Reads as find_type_contract
 use Rattle.musts.proofs.lacks_must.Reads as lacks_must_contract
 use Rattle.element_tests.proofs.own_tests.Reads as own_tests_contract
@@ -90,6 +93,14 @@ read_head_one κs = only (parts.read_head_gives κs)
 
 pub value_at_one : (κs : Lfts 1) → One answer (value_at_contract.Post κs)
 value_at_one κs = only (parts.value_at_gives κs)
+
+-- ---- children
+
+pub children_of_one : (κs : Lfts 1) → One (λ x s. left x) (children_of_contract.Post κs)
+children_of_one κs = only (parts.children_of_gives κs)
+
+pub inside_one : (κs : Lfts 1) → One (λ x s. left x) (inside_contract.Post κs)
+inside_one κs = only (parts.inside_gives κs)
 
 -- ---- element_tests
 

@@ -1,5 +1,5 @@
 -- Parts: what the public functions give that reading a message stands on (numbers, wire, compare, table, types, musts, elements,
--- element_tests, rows, clients, rules, classifiers, configurations, listed, named): each its definition, for every input. PartsPieces has
+-- children, element_tests, rows, clients, rules, classifiers, configurations, listed, named): each its definition, for every input. PartsPieces has
 -- the other lower crates.
 --
 -- It says nothing of what the definitions mean; docs/MAP.md says where they stand. `met` of each function, in its own crate, says that the
@@ -26,6 +26,10 @@ use Rattle.elements.specs.Elements.{value_in, head_at}
 use Rattle.elements.proofs.read_head.Reads as read_head_contract
 use Rattle.elements.proofs.value_at.Reads as value_at_contract
 use Rattle.elements.proofs.Stood.{answer_as, stood_gives}
+use Rattle.children.specs.Rows.{row_in, row_inside}
+use Rattle.children.specs.Children.{children_in, left}
+use Rattle.children.proofs.children_of.Reads as children_of_contract
+use Rattle.children.proofs.inside.Reads as inside_contract
 use Rattle.types.specs.Places.{type_under}
 use Rattle.musts.specs.Musts.{lacks_must}
 use Rattle.types.specs.Columns.{listed}
@@ -114,6 +118,14 @@ read_head_gives κs a x s h = stood_gives _ h
 
 pub value_at_gives : (κs : Lfts 1) → Gives answer (value_at_contract.Post κs) (λ a. value_in (head_at a.0.now a.1.0 a.1.1.0))
 value_at_gives κs a x s h = h
+
+-- ---- children
+
+pub children_of_gives : (κs : Lfts 1) → Gives (λ x s. left x) (children_of_contract.Post κs) (λ a. children_in a.0.now (row_in a.0.now a.1.0 a.1.1.0))
+children_of_gives κs a x s h = h
+
+pub inside_gives : (κs : Lfts 1) → Gives (λ x s. left x) (inside_contract.Post κs) (λ a. children_in a.0.now (row_inside a.0.now a.1.0))
+inside_gives κs a x s h = h
 
 -- ---- element_tests
 

@@ -8,9 +8,9 @@ pub returns-then-next-eq0 : goal.returns-then-next-eq0
 returns-then-next-eq0 c = settled_loose _ _ _ c.requires c.if-next-eq0.true
 
 -- every cut is good
-pub returns-in-Good : goal.returns-in-Good
-returns-in-Good c = settled_good _ _ _ c.requires c.if-next-eq0.false c.judge_cuts.ensures c.in-Good.is
+pub returns-in-None : goal.returns-in-None
+returns-in-None c = settled_good _ _ _ c.requires c.if-next-eq0.false c.judge_cuts.ensures c.in-None.is
 
 -- dropped
-pub returns-in-Bad : goal.returns-in-Bad
-returns-in-Bad c = settled-bad _ _ _ c.requires c.if-next-eq0.false c.judge_cuts.ensures c.in-Bad.is
+pub returns-in-Some : goal.returns-in-Some
+returns-in-Some c = settled-bad _ _ _ c.requires c.if-next-eq0.false c.judge_cuts.ensures c.in-Some.is
