@@ -30,10 +30,8 @@ fn number_short(bytes: &[u8], at: usize, width: usize) -> u64
     ensures { (result ≡ number_at width bytes.now at) × (result < 256 ^ width) }
 {
     let mut n: u64 = 0;
-    let mut k = 0;
-    while k < width {
-        n = n * 256 + (byte_after(bytes, at, k) as u64);
-        k += 1;
+    for k in 0..width {
+        n = n * 256 + u64::from(byte_after(bytes, at, k));
     }
     n
 }

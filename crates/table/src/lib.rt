@@ -99,8 +99,7 @@ pub struct Table {
 pub fn limited(count: u8, limit: usize) -> usize
     ensures { result ≡ limited_to limit count }
 {
-    let n = count as usize;
-    if limit < n { limit } else { n }
+    usize::from(count).min(limit)
 }
 
 // No client: kind and value 0.

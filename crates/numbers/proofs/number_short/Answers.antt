@@ -1,4 +1,4 @@
--- `numbers::number_short` gives `number_at`. The loop's invariant: `n` is the number of the first `k` bytes, and below 256 ^ k; what falls is width - k.
+-- `numbers::number_short` gives `number_at`. The loop's invariant: `n` is the number of the first `k` bytes, and below 256 ^ k.
 -- Trusts: nothing.
 use mathlib.Core.Path.{◌≡◌, refl}
 use Prim.Native.Nat.{◌-◌, ◌^◌, ◌≤◌, ◌<◌}
@@ -12,7 +12,7 @@ use Rattle.numbers.proofs.number_short.Goals as goal
 
 pub loop-k-init : goal.loop-k-init
 unfolding number_at
-loop-k-init c = (omega arith, refl, omega arith)
+loop-k-init c = (refl, omega arith)
 
 pub overflow_mul-n : goal.overflow_mul-n
 overflow_mul-n c = omega (arith, pow_five c.loop-k.k (omega arith))
@@ -25,4 +25,4 @@ unfolding number_at
 loop-k-preserved c =
     let k = c.loop-k.k in
     let i = c.loop-k.invariant in
-    (omega arith, rw (add-one k, i.1, c.byte_after.ensures) refl, rw (add-one k) (omega (arith, pow-suc 256 k)))
+    (rw (add-one k, i.0, c.from.ensures, c.byte_after.ensures) refl, rw (add-one k) (omega (arith, pow-suc 256 k)))

@@ -1,7 +1,7 @@
--- `numbers::number_short` gives `number_at`. The loop's invariant: `n` is the number of the first `k` bytes, and below 256 ^ k; what falls is width - k.
+-- `numbers::number_short` gives `number_at`. The loop's invariant: `n` is the number of the first `k` bytes, and below 256 ^ k.
 -- Trusts: nothing.
 use mathlib.Core.Path.{◌≡◌, refl}
-use Prim.Native.Nat.{◌-◌, ◌^◌, ◌≤◌, ◌<◌}
+use Prim.Native.Nat.{◌^◌, ◌<◌}
 use native.Mathlib.Omega.{arith}
 use native.Mathlib.Nat.{pow-suc, le_antisymm}
 use native.Mathlib.Numerals.{add-one}
@@ -11,7 +11,4 @@ use Rattle.numbers.proofs.Laws.{pow_five}
 use Rattle.numbers.proofs.number_short.Given as goal
 
 abbrev pub invariant-loop-k : goal.invariant-loop-k
-invariant-loop-k l = (l.k ≤ l.width) × (l.n ≡ number_at l.k l.bytes l.at) × (l.n < 256 ^ l.k)
-
-abbrev pub decreases-loop-k : goal.decreases-loop-k
-decreases-loop-k l = l.width - l.k
+invariant-loop-k l = (l.n ≡ number_at l.k l.bytes l.at) × (l.n < 256 ^ l.k)
