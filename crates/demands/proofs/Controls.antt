@@ -28,7 +28,7 @@ use Rattle.choice.specs.Chose as choice
 use Rattle.choice.specs.Chose.{Choice}
 use Rattle.order.specs.Best.{comes_before, any_of, first_place, is_best, best_place}
 use Rattle.choice.specs.Choose.{Ucid, is_client, lists_client, admits_ucid, fits_client, chosen_place, choice_of}
-use Rattle.payloads.specs.declared.Verdict.{Verdict}
+use Rattle.payloads.specs.Judged.{Verdict}
 use Rattle.tunnel.specs.Judge.{verdict_of}
 use Rattle.tunnel.proofs.Headers.{plain_verdict}
 use Rattle.tunnel.proofs.Controls as tunnel

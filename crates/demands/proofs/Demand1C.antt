@@ -38,8 +38,7 @@ use Rattle.choice.specs.Choose as choose
 use Rattle.choice.specs.Chose as choice
 use Rattle.choice.specs.Chose.{Choice}
 use Rattle.tunnel_parts.specs.declared.Tunnel.{Tunnel}
-use Rattle.payloads.specs.declared.Verdict as frames
-use Rattle.payloads.specs.declared.Verdict.TheVariants as verdict
+use Rattle.payloads.specs.Judged as verdict
 use Rattle.tunnel.specs.Judge.{verdict_of}
 use Rattle.tunnel_parts.specs.Prepared.{prepared_verdict}
 use Rattle.modem_record.specs.declared.Modem.{Modem}
@@ -168,7 +167,7 @@ choice_number (choice.Refused n) some = refl
 pub choice_for-refused : (t : Table) (kind value known ucid : ℕ) → ((choice_for t kind value known ucid).number ≡ 0 → ⊥) → (choice_for t kind value known ucid).number ≡ 17
 choice_for-refused t kind value known ucid some = choice_of_refused t (client_of kind value) (ucid_of known ucid) _ (choice_number _ some)
 
-verdict-kind : (v : frames.Verdict) (n : ℕ) → (verdict_as v n).kind ≡ 0 → v ≡ verdict.Refused (verdict_as v n).number
+verdict-kind : (v : verdict.Verdict) (n : ℕ) → (verdict_as v n).kind ≡ 0 → v ≡ verdict.Refused (verdict_as v n).number
 verdict-kind (verdict.Refused k) n e = refl
 verdict-kind verdict.Other n e = absurd (omega arith)
 verdict-kind (verdict.Forward k) n e = absurd (omega arith)

@@ -23,7 +23,7 @@ use Rattle.choice.specs.Chose.{Choice}
 use Rattle.order.specs.Best.{first_place}
 use Rattle.choice.specs.Choose.{Ucid, chosen_place, choice_of, rule_at}
 use Rattle.tunnel_parts.specs.declared.Tunnel.{Tunnel}
-use Rattle.payloads.specs.declared.Verdict.TheVariants as verdict
+use Rattle.payloads.specs.Judged as verdict
 use Rattle.matching.specs.Entry.{matches_entry}
 use Rattle.packets.specs.Packets.{wrong_length, address_at}
 use Rattle.tunnel.specs.Judge.{match_place, rule_verdict, choice_verdict, verdict_of}

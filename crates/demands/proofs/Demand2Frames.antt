@@ -25,7 +25,7 @@ use Rattle.preparing.specs.Preparing.{prepared_tunnel}
 use Rattle.tunnel.proofs.judge_frame.Reads as judge_frame_contract
 use Rattle.tunnel.proofs.judge_frame.Statement as judge_frame'
 use Rattle.tunnel.proofs.judge_frame.Met as judge_frame''
-use Rattle.payloads.proofs.Judged.{judged_only}
+use Rattle.payloads.specs.Judged.{Verdict, judged}
 use Rattle.payloads.proofs.payload_range.Reads as payload_range_contract
 use Rattle.payloads.proofs.payload.Reads as payload_contract
 use Rattle.preparing.proofs.prepare_tunnel.Reads as prepare_tunnel_contract
@@ -76,25 +76,25 @@ is_better_gives κs a x s h = h
 pub judge_frame_met : {M : Type 1} → judge_frame'.statement M
 judge_frame_met = judge_frame''.met
 
-pub judge_frame_gives : (κs : Lfts 1) → Gives answer (judge_frame_contract.Post κs) (λ a. verdict_of a.0 a.1.0 a.1.1.0 a.1.1.1.0.now)
-judge_frame_gives κs a x s h = judged_only _ _ h
+pub judge_frame_gives : (κs : Lfts 1) → Gives {L = Verdict} (λ x s. judged x) (judge_frame_contract.Post κs) (λ a. verdict_of a.0 a.1.0 a.1.1.0 a.1.1.1.0.now)
+judge_frame_gives κs a x s h = h
 
-pub payload_range_gives : (κs : Lfts 0) → Gives answer (payload_range_contract.Post κs) (λ a. payload_range a.0 a.1.0)
+pub payload_range_gives : (κs : Lfts 0) → Gives answer (payload_range_contract.Post κs) (λ a. payload_range (judged a.0) a.1.0)
 payload_range_gives κs a x s h = h
 
 pub payload_gives : (κs : Lfts 1) → Gives {L = Part} (λ x s. part x.ref_ptr x.now) (payload_contract.Post κs)
-    (λ a. part_over (payload_range a.0 (length a.1.0.now)) a.1.0.ref_ptr a.1.0.now)
+    (λ a. part_over (payload_range (judged a.0) (length a.1.0.now)) a.1.0.ref_ptr a.1.0.now)
 payload_gives κs a x s h = h
 
 pub prepare_tunnel_gives : (κs : Lfts 0) → Gives answer (prepare_tunnel_contract.Post κs) (λ a. prepared_tunnel a.0 a.1.0 a.1.1.0)
 prepare_tunnel_gives κs a x s h = h
 
-pub judge_prepared_gives : (κs : Lfts 1) → Gives answer (judge_prepared_contract.Post κs) (λ a. prepared_verdict a.0 a.1.0.now)
-judge_prepared_gives κs a x s h = judged_only _ _ h
+pub judge_prepared_gives : (κs : Lfts 1) → Gives {L = Verdict} (λ x s. judged x) (judge_prepared_contract.Post κs) (λ a. prepared_verdict a.0 a.1.0.now)
+judge_prepared_gives κs a x s h = h
 
 -- by a tunnel that is lent
-pub judge_lent_gives : (κs : Lfts 2) → Gives answer (judge_lent_contract.Post κs) (λ a. prepared_verdict a.0.now a.1.0.now)
-judge_lent_gives κs a x s h = judged_only _ _ h
+pub judge_lent_gives : (κs : Lfts 2) → Gives {L = Verdict} (λ x s. judged x) (judge_lent_contract.Post κs) (λ a. prepared_verdict a.0.now a.1.0.now)
+judge_lent_gives κs a x s h = h
 
 -- ---- stepping the modem
 

@@ -30,6 +30,7 @@ use Rattle.choice.proofs.Chose.{chose_only}
 use Rattle.choice.proofs.rule_at.Reads as choice_rule_at_contract
 use Rattle.choice.proofs.choose_rule.Reads as choose_rule_contract
 use Rattle.tunnel.proofs.judge_frame.Reads as judge_frame_contract
+use Rattle.payloads.proofs.Judged.{judged_only}
 use Rattle.payloads.proofs.payload_range.Reads as payload_range_contract
 use Rattle.payloads.proofs.payload.Reads as payload_contract
 use Rattle.preparing.proofs.prepare_tunnel.Reads as prepare_tunnel_contract
@@ -96,7 +97,7 @@ choice_rule_at_one κs = only (frames.choice_rule_at_gives κs)
 -- ---- tunnel
 
 pub judge_frame_one : (κs : Lfts 1) → One answer (judge_frame_contract.Post κs)
-judge_frame_one κs = only (frames.judge_frame_gives κs)
+judge_frame_one κs a x y s t h g = judged_only x y (only (frames.judge_frame_gives κs) a x y s t h g)
 
 pub payload_range_one : (κs : Lfts 0) → One answer (payload_range_contract.Post κs)
 payload_range_one κs = only (frames.payload_range_gives κs)
@@ -110,10 +111,10 @@ pub prepare_tunnel_one : (κs : Lfts 0) → One answer (prepare_tunnel_contract.
 prepare_tunnel_one κs = only (frames.prepare_tunnel_gives κs)
 
 pub judge_prepared_one : (κs : Lfts 1) → One answer (judge_prepared_contract.Post κs)
-judge_prepared_one κs = only (frames.judge_prepared_gives κs)
+judge_prepared_one κs a x y s t h g = judged_only x y (only (frames.judge_prepared_gives κs) a x y s t h g)
 
 pub judge_lent_one : (κs : Lfts 2) → One answer (judge_lent_contract.Post κs)
-judge_lent_one κs = only (frames.judge_lent_gives κs)
+judge_lent_one κs a x y s t h g = judged_only x y (only (frames.judge_lent_gives κs) a x y s t h g)
 
 -- ---- modem
 

@@ -20,6 +20,7 @@ use Rattle.joining.proofs.join_pieces.Reads as join_pieces_contract
 use Rattle.relation.proofs.relate.Reads as relate_contract
 use Rattle.body_tests.proofs.refuse.Reads as refuse_contract
 use Rattle.packets.proofs.wrong_length.Reads as wrong_length_contract
+use Rattle.packets.proofs.Laws.{as_packet_only}
 use Rattle.packets.proofs.read_packet.Reads as read_packet_contract
 use Rattle.packets.proofs.read_port.Reads as read_port_contract
 use Rattle.matching.proofs.entry_of.Reads as entry_of_contract
@@ -61,7 +62,7 @@ pub wrong_length_one : (κs : Lfts 1) → One answer (wrong_length_contract.Post
 wrong_length_one κs = only (pieces.wrong_length_gives κs)
 
 pub read_packet_one : (κs : Lfts 1) → One answer (read_packet_contract.Post κs)
-read_packet_one κs = only (pieces.read_packet_gives κs)
+read_packet_one κs a x y s t h g = as_packet_only x y (only (pieces.read_packet_gives κs) a x y s t h g)
 
 pub read_port_one : (κs : Lfts 1) → One answer (read_port_contract.Post κs)
 read_port_one κs = only (pieces.read_port_gives κs)

@@ -18,7 +18,8 @@ use Rattle.joining.proofs.piece_in.Reads as piece_in_contract
 use Rattle.joining.proofs.join_pieces.Reads as join_pieces_contract
 use Rattle.relation.proofs.relate.Reads as relate_contract
 use Rattle.body_tests.proofs.refuse.Reads as refuse_contract
-use Rattle.packets.specs.Packets.{wrong_length, packet_of, port_of}
+use Rattle.std.specs.Prelude.{Some}
+use Rattle.packets.specs.Packets.{Packet, wrong_length, packet_of, as_packet, port_of}
 use Rattle.packets.proofs.wrong_length.Reads as wrong_length_contract
 use Rattle.packets.proofs.read_packet.Reads as read_packet_contract
 use Rattle.packets.proofs.read_port.Reads as read_port_contract
@@ -68,7 +69,7 @@ refuse_gives κs a x s h = h
 pub wrong_length_gives : (κs : Lfts 1) → Gives answer (wrong_length_contract.Post κs) (λ a. wrong_length a.0.now)
 wrong_length_gives κs a x s h = h
 
-pub read_packet_gives : (κs : Lfts 1) → Gives answer (read_packet_contract.Post κs) (λ a. packet_of a.0.now)
+pub read_packet_gives : (κs : Lfts 1) → Gives {L = Packet} (λ x s. as_packet x) (read_packet_contract.Post κs) (λ a. packet_of a.0.now)
 read_packet_gives κs a x s h = h
 
 pub read_port_gives : (κs : Lfts 1) → Gives answer (read_port_contract.Post κs) (λ a. port_of a.0.now)
@@ -79,7 +80,7 @@ read_port_gives κs a x s h = h
 pub entry_of_gives : (κs : Lfts 0) → Gives answer (entry_of_contract.Post κs) (λ a. entry_of a.0)
 entry_of_gives κs a x s h = h
 
-pub fits_packet_gives : (κs : Lfts 0) → Gives answer (fits_packet_contract.Post κs) (λ a. fits_packet a.1.0 a.1.1.0 a.0)
+pub fits_packet_gives : (κs : Lfts 0) → Gives answer (fits_packet_contract.Post κs) (λ a. fits_packet (as_packet (Some a.1.0)) a.1.1.0 a.0)
 fits_packet_gives κs a x s h = h
 
 -- ---- texts: the place behind the text and the lent buffer

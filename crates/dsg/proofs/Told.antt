@@ -11,8 +11,7 @@ use lib.ListN.{length, take, drop}
 use lib.Dec.{eqb}
 use Rattle.wire.proofs.Laws.{rest_all}
 use Rattle.collector.specs.Answers.{complete, lent_of}
-use Rattle.payloads.specs.declared.Verdict.{Verdict}
-use Rattle.payloads.specs.declared.Verdict.TheVariants.{Refused, Other, Forward, Filtered}
+use Rattle.payloads.specs.Judged.{Verdict, Refused, Other, Forward, Filtered}
 use Rattle.payloads.specs.Payload.{payload_range, payload_of}
 use Rattle.dsg_pieces.specs.Bodies.{collected_of}
 use Rattle.dsg_frames.specs.Frames.{verdict_as}

@@ -13,8 +13,8 @@ use Rattle.table.specs.declared.Client.{Client}
 use Rattle.table.specs.declared.Table.{Table}
 use Rattle.choice.specs.Chose as rules
 use Rattle.choice.specs.Choose.{Ucid, choice_of, refusal_of, place_of}
-use Rattle.payloads.specs.declared.Verdict as frames
-use Rattle.payloads.specs.declared.Verdict.TheVariants.{Refused, Other, Forward, Filtered}
+use Rattle.payloads.specs.Judged as frames
+use Rattle.payloads.specs.Judged.{Refused, Other, Forward, Filtered}
 use Rattle.payloads.specs.Payload.{payload_range}
 use Rattle.tunnel.specs.Judge.{verdict_of}
 use Rattle.dsg_frames.specs.declared.Choice.{Choice}

@@ -2,10 +2,12 @@
 //
 // `choose_value`, `judge_value`, `prepare_value` and `judge_parts`. A client is a kind and a value; a UCID counts where its mark
 // is not 0. They take any table, any numbers and any frame. The payload is told by its place in the frame.
+// Kept: kind, value, known and ucid side by side, as the functions that C calls have them (`dsg_choose`, `dsg_judge`, `dsg_prepare`).
 #![tactic(auto)]
 
 ghost use Rattle.std.specs.Prelude.{◌≡◌, length};
 ghost use Rattle.choice.specs.Chose.{chose};
+ghost use Rattle.payloads.specs.Judged.{judged};
 ghost use Rattle.tunnel_parts.specs.Prepared.{prepared_verdict};
 ghost use Rattle.preparing.specs.Preparing.{prepared_tunnel};
 ghost use Rattle.dsg_frames.specs.Frames.{client_of, ucid_of, choice_as, choice_for, verdict_as, verdict_for};
@@ -15,6 +17,7 @@ use table::{Client, Table};
 use tunnel_parts::Tunnel;
 
 // What a choice is answered: number 0 and the rule's place in the table, or the refusal.
+// Kept: a number with a place beside it, since C is given this record (`struct dsg_choice` of include/dsg.h): its fields, order and types stay.
 #[repr(C)]
 #[derive(Clone, Copy)]
 pub struct Choice {
@@ -24,6 +27,7 @@ pub struct Choice {
 
 // What a frame is answered. Kind 0: refused, `number` says why. 1: of another tunnel. 2: forwarded, by the
 // classifier `number` or by none; the payload is `length` bytes from `start`. 3: filtered.
+// Kept: a kind as a number with its values beside it, since C is given this record (`struct dsg_verdict`): its fields, order and types stay.
 #[repr(C)]
 #[derive(Clone, Copy)]
 pub struct Verdict {
@@ -37,7 +41,7 @@ pub struct Verdict {
 fn ucid_from(known: u8, ucid: u8) -> Option<u8>
     ensures { result ≡ ucid_of known ucid }
 {
-    if known == 0 { None } else { Some(ucid) }
+    (known != 0).then_some(ucid)
 }
 
 // The numbers of a choice.
@@ -48,7 +52,7 @@ fn choice_from(choice: Result<usize, Refusal>) -> Choice
     match choice {
         Ok(place) => Choice { number: 0, place },
         Err(refusal) => Choice {
-            number: refusal.number() as u32,
+            number: u32::from(refusal.number()),
             place: 0,
         },
     }
@@ -60,42 +64,36 @@ pub fn choose_value(table: Table, kind: u8, value: u64, known: u8, ucid: u8) -> 
 {
     let client = Client { kind, value };
     let upstream = ucid_from(known, ucid);
-    let chosen = choice::choose_rule(table, client, upstream);
-    choice_from(chosen)
+    choice_from(choice::choose_rule(table, client, upstream))
 }
 
 // The numbers of a verdict on a frame of so many bytes.
+#[tactic(auto, using(payloads::proofs::Lent::payload_range_lies), unfolding(payloads::specs::Judged::judged, refusals::specs::Refusals::number_of))]
 fn verdict_from(verdict: payloads::Verdict, length: usize) -> Verdict
-    ensures { result ≡ verdict_as verdict length }
+    ensures { result ≡ verdict_as (judged verdict) length }
 {
+    let nothing = Verdict {
+        kind: 0,
+        number: 0,
+        start: 0,
+        length: 0,
+    };
     match verdict {
-        payloads::Verdict::Refused(n) => Verdict {
-            kind: 0,
-            number: n as u32,
-            start: 0,
-            length: 0,
+        payloads::Verdict::Refused(refusal) => Verdict {
+            number: u32::from(refusal.number()),
+            ..nothing
         },
-        payloads::Verdict::Other => Verdict {
-            kind: 1,
-            number: 0,
-            start: 0,
-            length: 0,
-        },
-        payloads::Verdict::Forward(n) => {
+        payloads::Verdict::Other => Verdict { kind: 1, ..nothing },
+        payloads::Verdict::Forward(number) => {
             let range = payloads::payload_range(verdict, length);
             Verdict {
                 kind: 2,
-                number: n as u32,
+                number: u32::from(number),
                 start: range.start,
                 length: range.end - range.start,
             }
         }
-        payloads::Verdict::Filtered => Verdict {
-            kind: 3,
-            number: 0,
-            start: 0,
-            length: 0,
-        },
+        payloads::Verdict::Filtered => Verdict { kind: 3, ..nothing },
     }
 }
 
@@ -106,8 +104,7 @@ pub fn judge_value(table: Table, kind: u8, value: u64, known: u8, ucid: u8, fram
     let client = Client { kind, value };
     let upstream = ucid_from(known, ucid);
     let verdict = tunnel::judge_frame(table, client, upstream, frame);
-    let length = frame.len();
-    verdict_from(verdict, length)
+    verdict_from(verdict, frame.len())
 }
 
 // The tunnel of a client, from a table by value.
@@ -123,7 +120,5 @@ pub fn prepare_value(table: Table, kind: u8, value: u64, known: u8, ucid: u8) ->
 pub fn judge_parts(tunnel: &Tunnel, frame: &[u8]) -> Verdict
     ensures { result ≡ verdict_as (prepared_verdict tunnel.now frame.now) (length frame.now) }
 {
-    let verdict = tunnel_parts::judge_lent(tunnel, frame);
-    let length = frame.len();
-    verdict_from(verdict, length)
+    verdict_from(tunnel_parts::judge_lent(tunnel, frame), frame.len())
 }

@@ -12,9 +12,8 @@ use lib.Bits.{bit_and, and_zero_r}
 use lib.Dec.{eqb}
 use Rattle.table.specs.declared.Classifier.{Classifier}
 use Rattle.table.specs.Table.{is_present}
-use Rattle.packets.specs.declared.Packet.{Packet}
 use Rattle.packets.specs.declared.Port.{Port}
-use Rattle.packets.specs.Packets.{is_ipv4, source_at, destination_at, packet_of, port_of}
+use Rattle.packets.specs.Packets.{Packet, is_ipv4, source_at, destination_at, packet_of, port_of}
 use Rattle.packets.proofs.Laws.{full, none, packet_of_ipv4}
 use Rattle.matching.specs.declared.Entry.{Entry}
 use Rattle.matching.specs.Match.{port_within, mask_of, start_of, end_of, fits_source, fits_port, matches_frame}

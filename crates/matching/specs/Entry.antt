@@ -11,9 +11,8 @@ use Rattle.std.specs.Prelude.{ℕ, Bool, cond, not, ◌&&◌, ◌||◌, List, le
 use Rattle.std.specs.Int.Bits.{bit_and}
 use Rattle.table.specs.declared.Classifier.{Classifier}
 use Rattle.table.specs.Table.{is_present}
-use Rattle.packets.specs.declared.Packet.{Packet}
 use Rattle.packets.specs.declared.Port.{Port}
-use Rattle.packets.specs.Packets.{packet_of, port_of}
+use Rattle.packets.specs.Packets.{Packet, packet_of, port_of}
 use Rattle.matching.specs.declared.Entry.{Entry}
 use Rattle.matching.specs.Match.{present_or, mask_of, start_of, end_of}
 

@@ -6,15 +6,16 @@
 // entry that misses on its port costs one branch.
 #![tactic(auto)]
 
-ghost use Rattle.std.specs.Prelude.{◌≡◌, not, ◌||◌};
+ghost use Rattle.std.specs.Prelude.{◌≡◌, not, cond, ◌||◌};
 ghost use Rattle.table.specs.Table.{is_present};
-ghost use Rattle.matching.specs.Match.{present_or};
+ghost use Rattle.packets.specs.Packets.{as_packet};
 ghost use Rattle.matching.specs.Entry.{ports_of, entry_of, port_fits, fits_packet};
 
 use packets::{Packet, Port};
 use table::Classifier;
 
 // A classifier with its absent parts filled in; `ports` is 0 where it names no port.
+// Kept: `ports` is a number, since it fills a place of `ports` of the record Tunnel, which C lends, and comes back from there as it stands.
 #[derive(Clone, Copy)]
 pub struct Entry {
     pub destination: u32,
@@ -27,25 +28,16 @@ pub struct Entry {
 }
 
 // Whether there is a port, from `start` to `end`.
+#[tactic(auto, unfolding(crate::specs::Entry::port_fits))]
 fn port_fits(port: Port, start: u16, end: u16) -> bool
     ensures { result ≡ port_fits port start end }
 {
-    if !port.present {
-        return false;
-    }
-    (start <= port.number) & (port.number <= end)
+    port.present && (start <= port.number) & (port.number <= end)
 }
 
 // The mark's value where it is there, else the other.
-fn present16(mark: u8, value: u16, other: u16) -> u16
-    ensures { result ≡ present_or mark value other }
-{
-    if mark == 0 { other } else { value }
-}
-
-// The same for an address.
-fn present32(mark: u8, value: u32, other: u32) -> u32
-    ensures { result ≡ present_or mark value other }
+fn present_or<T: Copy>(mark: u8, value: T, other: T) -> T
+    ensures { result ≡ cond (is_present mark) value other }
 {
     if mark == 0 { other } else { value }
 }
@@ -54,23 +46,21 @@ fn present32(mark: u8, value: u32, other: u32) -> u32
 fn ports_of(hasstart: u8, hasend: u8) -> u8
     ensures { result ≡ ports_of hasstart hasend }
 {
-    if hasstart != 0 {
-        return 1;
-    }
-    if hasend != 0 { 1 } else { 0 }
+    if hasstart != 0 || hasend != 0 { 1 } else { 0 }
 }
 
 // The classifier with its absent parts filled in.
+#[tactic(auto, unfolding(crate::specs::Entry::entry_of))]
 pub fn entry_of(cl: Classifier) -> Entry
     ensures { result ≡ entry_of cl }
 {
-    let mask = present32(cl.hasmask, cl.mask, 4294967295);
+    let mask = present_or(cl.hasmask, cl.mask, u32::MAX);
     Entry {
         destination: cl.destination,
-        source: present32(cl.hassource, cl.source, 0),
-        mask: present32(cl.hassource, mask, 0),
-        start: present16(cl.hasstart, cl.start, 0),
-        end: present16(cl.hasend, cl.end, 65535),
+        source: present_or(cl.hassource, cl.source, 0),
+        mask: present_or(cl.hassource, mask, 0),
+        start: present_or(cl.hasstart, cl.start, 0),
+        end: present_or(cl.hasend, cl.end, u16::MAX),
         number: cl.number,
         ports: ports_of(cl.hasstart, cl.hasend),
     }
@@ -84,14 +74,12 @@ fn port_passes(entry: Entry, port: Port) -> bool
 }
 
 // Whether an IPv4 packet with this port fits the entry. The port comes first: most frames miss on it.
+#[tactic(auto, unfolding(crate::specs::Entry::fits_packet))]
 pub fn fits_packet(entry: Entry, packet: Packet, port: Port) -> bool
-    ensures { result ≡ fits_packet packet port entry }
+    ensures { result ≡ fits_packet (as_packet (Some packet)) port entry }
 {
     if !port_passes(entry, port) {
         return false;
     }
-    if packet.destination != entry.destination {
-        return false;
-    }
-    packet.source & entry.mask == entry.source
+    packet.destination == entry.destination && packet.source & entry.mask == entry.source
 }

@@ -1,19 +1,21 @@
--- Laws of `packet_of`, `header_end` and `is_ipv4` (specs/Packets.antt).
+-- Laws of `packet_of`, `as_packet`, `header_end` and `is_ipv4` (specs/Packets.antt).
 --
 --   full frame, none   the packet of an IPv4 frame, and of any other
 --   packet_of_ipv4      a packet says whether the frame is one of IPv4
+--   as_packet_only      two answers that say the same of a frame are the same
 --   header_end_le       a header ends at byte 74 at the latest
 --   is_ipv4-few, is_ipv4_past   a frame whose header has under five words, or passes the frame's end, counts as no IPv4 packet
 -- Trusts: nothing.
-use mathlib.Core.Path.{◌≡◌, refl}
+use mathlib.Core.Path.{◌≡◌, refl, sym, ap, ◌∙◌}
 use mathlib.Core.Bool.{Bool, true, false, cond, and-false}
 use mathlib.Core.List.{List}
 use Prim.Native.Nat.{ℕ, ◌≤◌, ◌<◌}
 use native.Mathlib.Omega.{arith}
 use lib.ListN.{length}
 use borrow.Author.Tests.{lt-leb}
-use Rattle.packets.specs.declared.Packet.{Packet}
-use Rattle.packets.specs.Packets.{header_words, header_end, is_ipv4, source_at, destination_at, packet_of}
+use Rattle.std.specs.Prelude.{Option, None, Some}
+use Rattle.packets.specs.declared.Packet as read
+use Rattle.packets.specs.Packets.{Packet, header_words, header_end, is_ipv4, source_at, destination_at, packet_of, as_packet}
 
 -- the packet of an IPv4 frame, and of any other
 abbrev pub full : List ℕ → Packet
@@ -29,6 +31,19 @@ packet_of_ipv4 frame = go (is_ipv4 frame)
     go : (b : Bool) → (cond b (full frame) none).ipv4 ≡ b
     go true = refl
     go false = refl
+
+-- ---- answers on a frame
+
+packet_as : Packet → Option read.Packet
+packet_as q = cond q.ipv4 (Some (record { destination = q.destination; source = q.source })) None
+
+packet_as_back : (p : Option read.Packet) → packet_as (as_packet p) ≡ p
+unfolding packet_as
+packet_as_back None = refl
+packet_as_back (Some p) = refl
+
+pub as_packet_only : (p q : Option read.Packet) → as_packet p ≡ as_packet q → p ≡ q
+as_packet_only p q e = sym (packet_as_back p) ∙ ap packet_as e ∙ packet_as_back q
 
 -- ---- the header's length
 

@@ -10,16 +10,23 @@
 --   source_at, destination_at   the source and destination address: in the first five words of the header
 --   has_port frame          of an IPv4 packet: four bytes or more behind the header, fragment offset 0 (13 bits), protocol 6 or 17
 --   port_at frame           the destination port: the second pair of bytes behind the header
+--   Packet                 whether a frame is an IPv4 packet, and its addresses
 --   packet_of frame         the addresses of a frame; 0 where it is no IPv4 packet
+--   as_packet p            what an answer on a frame says: None, that it is no IPv4 packet; else its addresses
 --   port_of frame           whether there is a port, and the number in its place
 --
 -- Lengths are the frame's; what the header says of the packet's length, and the options themselves, are not looked at. A byte
 -- beyond the frame's end counts as 0; of an IPv4 packet no condition looks at one.
 -- Tested by: random frames, and headers of every length in frames of 14 to 90 bytes, against the other program. Trusts: nothing.
-use Rattle.std.specs.Prelude.{ℕ, ◌+◌, ◌*◌, ◌/◌, ◌%◌, Bool, true, false, cond, ◌&&◌, ◌||◌, List, length, get_or, ltb, leb, eqb}
+use Rattle.std.specs.Prelude.{ℕ, ◌+◌, ◌*◌, ◌/◌, ◌%◌, Bool, true, false, cond, ◌&&◌, ◌||◌, List, length, get_or, ltb, leb, eqb, Option, None, Some}
 use Rattle.numbers.specs.Numbers.{number_at}
-use Rattle.packets.specs.declared.Packet.{Packet}
+use Rattle.packets.specs.declared.Packet as read
 use Rattle.packets.specs.declared.Port.{Port}
+
+pub record Packet : Type 0 where
+  pub ipv4 : Bool
+  pub destination : ℕ
+  pub source : ℕ
 
 unfoldable pub wrong_length : List ℕ → Bool
 wrong_length frame = ltb (length frame) 14 || ltb 1518 (length frame)
@@ -58,6 +65,10 @@ packet_of frame =
     cond (is_ipv4 frame)
     (record { ipv4 = true; destination = destination_at frame; source = source_at frame })
     (record { ipv4 = false; destination = 0; source = 0 })
+
+abbrev pub as_packet : Option read.Packet → Packet
+as_packet None = record { ipv4 = false; destination = 0; source = 0 }
+as_packet (Some p) = record { ipv4 = true; destination = p.destination; source = p.source }
 
 unfoldable pub port_of : List ℕ → Port
 port_of frame = record { present = has_port frame; number = port_at frame }

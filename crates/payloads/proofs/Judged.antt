@@ -3,22 +3,23 @@
 --   judged_only   two verdicts that are judged alike are the same
 -- Trusts: nothing.
 use mathlib.Core.Path.{◌≡◌, refl, sym, ap, ◌∙◌}
-use Rattle.payloads.specs.declared.Verdict.{Verdict}
-use Rattle.payloads.specs.declared.Verdict.TheVariants.{Refused, Other, Forward, Filtered}
-use Rattle.payloads.specs.Judged.{Judged, refused, other, forward, filtered, judged}
+use Rattle.refusals.proofs.Only.{refusal_from, refusal_from-back}
+use Rattle.payloads.specs.declared.Verdict as answers
+use Rattle.payloads.specs.declared.Verdict.TheVariants as answer
+use Rattle.payloads.specs.Judged.{Verdict, Refused, Other, Forward, Filtered, judged}
 
-verdict_as : Judged → Verdict
-verdict_as (refused n) = Refused n
-verdict_as other = Other
-verdict_as (forward n) = Forward n
-verdict_as filtered = Filtered
+verdict_as : Verdict → answers.Verdict
+verdict_as (Refused n) = answer.Refused (refusal_from n)
+verdict_as Other = answer.Other
+verdict_as (Forward n) = answer.Forward n
+verdict_as Filtered = answer.Filtered
 
-verdict_as_back : (v : Verdict) → verdict_as (judged v) ≡ v
+verdict_as_back : (v : answers.Verdict) → verdict_as (judged v) ≡ v
 unfolding judged verdict_as
-verdict_as_back (Refused n) = refl
-verdict_as_back Other = refl
-verdict_as_back (Forward n) = refl
-verdict_as_back Filtered = refl
+verdict_as_back (answer.Refused r) = ap answer.Refused (refusal_from-back r)
+verdict_as_back answer.Other = refl
+verdict_as_back (answer.Forward n) = refl
+verdict_as_back answer.Filtered = refl
 
-pub judged_only : (v w : Verdict) → judged v ≡ judged w → v ≡ w
+pub judged_only : (v w : answers.Verdict) → judged v ≡ judged w → v ≡ w
 judged_only v w e = sym (verdict_as_back v) ∙ ap verdict_as e ∙ verdict_as_back w

@@ -6,51 +6,42 @@
 
 ghost use Rattle.std.specs.Prelude.{◌≡◌, length};
 ghost use Rattle.wire.specs.Parts.{part};
+ghost use Rattle.payloads.specs.Judged.{judged};
 ghost use Rattle.payloads.specs.Payload.{payload_range, part_over};
+
+use refusals::Refusal;
+use std::ops::Range;
 
 // The verdict on a frame.
 #[derive(Clone, Copy)]
 pub enum Verdict {
-    // The number of the refusal, 16 or 17.
-    Refused(u8),
+    // Refused: by the length of the frame, or since no rule fits.
+    Refused(Refusal),
     // A frame of another address.
     Other,
+    // Kept: a number and no Option, since `prepared_verdict` and `verdict_of` answer Forward 0 also of a classifier of number 0.
     // Forwarded; the number of the matching classifier, 0 where the rule names none.
     Forward(u16),
     // No classifier that the rule names matches.
     Filtered,
 }
 
-// A part of a frame: the bytes from `start` on, up to `end` and without it.
-#[derive(Clone, Copy)]
-pub struct Range {
-    pub start: usize,
-    pub end: usize,
-}
-
 // The range of the payload in a frame of n bytes: of a forwarded frame from 14 to its end, else empty.
-pub fn payload_range(verdict: Verdict, n: usize) -> Range
-    ensures { result ≡ payload_range verdict n }
+#[tactic(auto, unfolding(crate::specs::Judged::judged, crate::specs::Payload::payload_range))]
+pub fn payload_range(verdict: Verdict, n: usize) -> Range<usize>
+    ensures { result ≡ payload_range (judged verdict) n }
 {
     match verdict {
-        Verdict::Refused(_) => Range { start: 0, end: 0 },
-        Verdict::Other => Range { start: 0, end: 0 },
-        Verdict::Forward(_) => {
-            if n < 14 {
-                return Range { start: 0, end: 0 };
-            }
-            Range { start: 14, end: n }
-        }
-        Verdict::Filtered => Range { start: 0, end: 0 },
+        Verdict::Forward(_) if n >= 14 => 14..n,
+        _ => 0..0,
     }
 }
 
 // The part of the frame that the verdict lends back: the bytes of its range.
+#[tactic(auto, using(crate::proofs::Lent::payload_range_lies))]
 pub fn payload(verdict: Verdict, frame: &[u8]) -> &[u8]
-    ensures { part result.ref_ptr result.now ≡ part_over (payload_range verdict (length frame.now)) frame.entry.ref_ptr frame.now }
+    ensures { part result.ref_ptr result.now ≡ part_over (payload_range (judged verdict) (length frame.now)) frame.entry.ref_ptr frame.now }
 {
     let range = payload_range(verdict, frame.len());
-    let start = range.start;
-    let end = range.end;
-    &frame[start..end]
+    &frame[range.start..range.end]
 }

@@ -13,7 +13,7 @@ use tunnel_parts::{Tunnel, judge_lent};
 
 // The verdict on a frame by a prepared tunnel.
 pub fn judge_prepared(tunnel: Tunnel, frame: &[u8]) -> Verdict
-    ensures { judged result ≡ judged (prepared_verdict tunnel frame.now) }
+    ensures { judged result ≡ prepared_verdict tunnel frame.now }
 {
     judge_lent(&tunnel, frame)
 }

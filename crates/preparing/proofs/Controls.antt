@@ -9,7 +9,7 @@ use Prim.Native.Nat.{ℕ}
 use Rattle.table.specs.declared.Client.{Client}
 use Rattle.table.specs.declared.Table.{Table}
 use Rattle.choice.specs.Choose.{Ucid}
-use Rattle.payloads.specs.declared.Verdict.{Verdict}
+use Rattle.payloads.specs.Judged.{Verdict}
 use Rattle.tunnel.proofs.Headers.{plain_verdict}
 use Rattle.tunnel.proofs.Controls as tunnel
 use Rattle.tunnel_parts.specs.declared.Tunnel.{Tunnel}

@@ -23,8 +23,7 @@ use Rattle.choice.proofs.Laws.{get_or_there}
 use Rattle.choice.proofs.Fits.{choice_of_17}
 use Rattle.matching.specs.declared.Entry.{Entry}
 use Rattle.tunnel_parts.specs.declared.Tunnel.{Tunnel}
-use Rattle.payloads.specs.declared.Verdict.{Verdict}
-use Rattle.payloads.specs.declared.Verdict.TheVariants.{Refused, Other, Forward, Filtered}
+use Rattle.payloads.specs.Judged.{Verdict, Refused, Other, Forward, Filtered}
 use Rattle.packets.specs.Packets.{wrong_length, address_at}
 use Rattle.tunnel.specs.Judge.{match_place, rule_verdict, choice_verdict, verdict_of}
 use Rattle.matching.specs.Entry.{entry_of, matches_entry}

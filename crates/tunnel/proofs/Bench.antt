@@ -21,7 +21,7 @@ use Rattle.std.specs.Prelude.{None}
 use Rattle.order.specs.Best.{comes_before, any_of, first_place, is_best, best_place}
 use Rattle.choice.specs.Choose.{is_client, lists_client, lists_ucid, admits_ucid, fits_client, chosen_place, choice_of}
 use Rattle.choice.proofs.Bench.{application42, table_m}
-use Rattle.payloads.specs.declared.Verdict.TheVariants.{Refused, Other, Forward, Filtered}
+use Rattle.payloads.specs.Judged.{Refused, Other, Forward, Filtered}
 use Rattle.packets.specs.Packets.{wrong_length, address_at, header_end, is_ipv4, destination_at, has_port, port_at}
 use Rattle.listed.specs.Listed.{names_number}
 use Rattle.matching.specs.Match.{port_within, fits_source, fits_port, matches_frame}

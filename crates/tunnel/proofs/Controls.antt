@@ -12,8 +12,7 @@ use Rattle.table.specs.declared.Table.{Table}
 use Rattle.choice.specs.Choose.{Ucid}
 use Rattle.std.specs.Prelude.{None}
 use Rattle.choice.proofs.Bench.{application42, table_m}
-use Rattle.payloads.specs.declared.Verdict.{Verdict}
-use Rattle.payloads.specs.declared.Verdict.TheVariants.{Refused, Forward, Filtered}
+use Rattle.payloads.specs.Judged.{Verdict, Refused, Forward, Filtered}
 use Rattle.tunnel.specs.Judge.{verdict_of}
 use Rattle.tunnel.proofs.Headers.{plain_verdict}
 use Rattle.tunnel.proofs.Bench.{frame_m, forwarded, unfit, table_port, frame_alert, alert, early}

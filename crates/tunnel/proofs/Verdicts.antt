@@ -22,8 +22,7 @@ use Rattle.choice.specs.Chose.{Choice}
 use Rattle.choice.specs.Choose.{Ucid, fits_client, choice_of, rule_at}
 use Rattle.choice.proofs.Fits.{choice_of_none}
 use Rattle.order.proofs.Places.{best_place-none}
-use Rattle.payloads.specs.declared.Verdict.{Verdict}
-use Rattle.payloads.specs.declared.Verdict.TheVariants.{Refused, Other, Forward}
+use Rattle.payloads.specs.Judged.{Verdict, Refused, Other, Forward}
 use Rattle.packets.specs.Packets.{wrong_length, address_at}
 use Rattle.matching.specs.Match.{matches_frame}
 use Rattle.tunnel.specs.Judge.{match_place, rule_verdict, choice_verdict, verdict_of}

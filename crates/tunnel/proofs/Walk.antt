@@ -17,9 +17,8 @@ use Rattle.table.specs.declared.Classifier.{Classifier}
 use Rattle.table.specs.declared.Table.{Table}
 use Rattle.table.specs.Table.{classifiers_of}
 use Rattle.order.specs.Best.{best_place, within}
-use Rattle.packets.specs.declared.Packet.{Packet}
 use Rattle.packets.specs.declared.Port.{Port}
-use Rattle.packets.specs.Packets.{packet_of, port_of}
+use Rattle.packets.specs.Packets.{Packet, packet_of, port_of}
 use Rattle.listed.specs.Listed.{names_number}
 use Rattle.matching.specs.Match.{matches_frame}
 use Rattle.matching.specs.Entry.{entry_of, fits_packet}

@@ -16,8 +16,7 @@ use Rattle.choice.specs.Chose as choice
 use Rattle.choice.specs.Chose.{Choice}
 use Rattle.order.specs.Best.{best_place}
 use Rattle.choice.specs.Choose.{Ucid, choice_of, rule_at}
-use Rattle.payloads.specs.declared.Verdict.{Verdict}
-use Rattle.payloads.specs.declared.Verdict.TheVariants.{Refused, Other, Forward, Filtered}
+use Rattle.payloads.specs.Judged.{Verdict, Refused, Other, Forward, Filtered}
 use Rattle.packets.specs.Packets.{wrong_length, address_at}
 use Rattle.listed.specs.Listed.{names_number}
 use Rattle.matching.specs.Match.{matches_frame}

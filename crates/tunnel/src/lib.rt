@@ -18,16 +18,14 @@ use numbers::number6;
 use order::best_place;
 use packets::{read_packet, read_port, wrong_length};
 use payloads::Verdict;
+use refusals::Refusal;
 use table::{Client, Rule, Table, limited};
 
 // The place of the matching classifier; none where none matches.
 fn match_place(table: &Table, rule: &Rule, frame: &[u8]) -> Option<usize>
     ensures { result ≡ within (length (classifiers_of table.now)) (match_place table.now rule.now frame.now) }
 {
-    let packet = read_packet(frame);
-    if !packet.ipv4 {
-        return None;
-    }
+    let packet = read_packet(frame)?;
     let port = read_port(frame);
     let count = limited(table.classifiercount, 32);
     best_place(
@@ -39,7 +37,7 @@ fn match_place(table: &Table, rule: &Rule, frame: &[u8]) -> Option<usize>
 
 // The verdict of a chosen rule on a frame.
 fn judge_rule(table: &Table, rule: &Rule, frame: &[u8]) -> Verdict
-    ensures { result ≡ rule_verdict table.now rule.now frame.now }
+    ensures { judged result ≡ rule_verdict table.now rule.now frame.now }
 {
     if number6(frame, 0) != rule.tunnel {
         return Verdict::Other;
@@ -55,13 +53,13 @@ fn judge_rule(table: &Table, rule: &Rule, frame: &[u8]) -> Verdict
 
 // The verdict on a frame for a client: refusal 16, then 17, then the chosen rule's.
 pub fn judge_frame(table: Table, client: Client, ucid: Option<u8>, frame: &[u8]) -> Verdict
-    ensures { judged result ≡ judged (verdict_of table client ucid frame.now) }
+    ensures { judged result ≡ verdict_of table client ucid frame.now }
 {
     if wrong_length(frame) {
-        return Verdict::Refused(16);
+        return Verdict::Refused(Refusal::FrameLength);
     }
     match choose_rule(table, client, ucid) {
-        Err(refusal) => Verdict::Refused(refusal.number()),
+        Err(refusal) => Verdict::Refused(refusal),
         Ok(place) => judge_rule(&table, &rule_at(table, place), frame),
     }
 }

@@ -15,7 +15,7 @@ use Rattle.table.specs.Table.{limited_to}
 use Rattle.order.specs.Best.{first_place}
 use Rattle.packets.specs.Packets.{wrong_length, address_at}
 use Rattle.matching.specs.Entry.{matches_entry}
-use Rattle.payloads.specs.declared.Verdict.TheVariants.{Refused, Other, Forward, Filtered}
+use Rattle.payloads.specs.Judged.{Refused, Other, Forward, Filtered}
 use Rattle.tunnel_parts.specs.declared.Tunnel.{Tunnel}
 use Rattle.tunnel_parts.specs.Prepared.{entries_of, prepared_verdict}
 

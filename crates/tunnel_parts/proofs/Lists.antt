@@ -5,18 +5,18 @@
 --   first_place_foreign   a frame that is no IPv4 packet: no entry of a tunnel matches
 -- Trusts: nothing.
 use mathlib.Core.Path.{◌≡◌, refl, sym, ap, ◌∙◌}
-use mathlib.Core.Bool.{Bool, true, false, cond}
+use mathlib.Core.Bool.{Bool, true, false, cond, not}
 use mathlib.Core.List.{List}
 use Prim.Native.Nat.{ℕ, zero, suc, ◌+◌, ◌-◌, ◌≤◌, ◌<◌}
 use native.Mathlib.Nat.{add-zero}
 use native.Mathlib.Numerals.{add-one}
 use native.Mathlib.Omega.{arith}
 use lib.ListN.{length}
+use Rattle.std.specs.List.{position_or_len, prefix_len, range_with_len}
 use Rattle.table.specs.Table.{limited_to}
 use Rattle.order.specs.Best.{first_place}
 use Rattle.order.proofs.Places.{first_place-none}
-use Rattle.packets.specs.declared.Packet.{Packet}
-use Rattle.packets.specs.Packets.{packet_of}
+use Rattle.packets.specs.Packets.{Packet, packet_of}
 use Rattle.matching.specs.Entry.{matches_entry}
 use Rattle.matching.proofs.Entries.{matches_entry_not}
 use Rattle.tunnel_parts.specs.declared.Tunnel.{Tunnel}
@@ -46,6 +46,17 @@ module _ {A : Type 0} (at : ℕ → A) where
   first_from_end ok n i h =
       let e : n - i ≡ 0 = omega arith in
       rw e (add-zero i)
+
+-- the first place in a range of places is that of the elements there
+pub first_in_range : {A : Type 0} (at : ℕ → A) (ok : A → Bool) (i n : ℕ) → position_or_len (λ j. ok (at j)) (range_with_len i n) ≡ first_place ok (list_from at i n)
+unfolding list_from first_place
+first_in_range at ok i zero = refl
+first_in_range at ok i (suc n) = go (ok (at i)) (first_in_range at ok (i + 1) n ∙ ap (λ (j : ℕ). first_place ok (list_from at j n)) (add-one i))
+  where
+    go : (b : Bool) → prefix_len (λ j. not (ok (at j))) (range_with_len (i + 1) n) ≡ first_place ok (list_from at (suc i) n)
+        → cond (not b) (1 + prefix_len (λ j. not (ok (at j))) (range_with_len (i + 1) n)) 0 ≡ cond b 0 (suc (first_place ok (list_from at (suc i) n)))
+    go true e = refl
+    go false e = omega (arith, e)
 
 pub first_place_foreign : (tu : Tunnel) (frame : List ℕ) (p : Packet) (n : ℕ)
     → n ≡ limited_to 32 tu.count → p ≡ packet_of frame → p.ipv4 ≡ false → n ≡ first_place (matches_entry frame) (entries_of tu)

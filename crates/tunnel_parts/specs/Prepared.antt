@@ -12,8 +12,7 @@ use Rattle.order.specs.Best.{first_place}
 use Rattle.matching.specs.declared.Entry.{Entry}
 use Rattle.packets.specs.Packets.{wrong_length, address_at}
 use Rattle.matching.specs.Entry.{matches_entry}
-use Rattle.payloads.specs.declared.Verdict.{Verdict}
-use Rattle.payloads.specs.declared.Verdict.TheVariants.{Refused, Other, Forward, Filtered}
+use Rattle.payloads.specs.Judged.{Verdict, Refused, Other, Forward, Filtered}
 use Rattle.tunnel_parts.specs.declared.Tunnel.{Tunnel}
 
 abbrev pub entry_at : Tunnel → ℕ → Entry

@@ -5,7 +5,8 @@
 // tunnels. Nothing that is lent is written.
 #![tactic(auto)]
 
-ghost use Rattle.std.specs.Prelude.{◌≡◌, ◌<◌, eqb};
+ghost use Rattle.std.specs.Prelude.{◌≡◌, ◌<◌, cond, eqb, ltb};
+ghost use Rattle.table.specs.Table.{limited_to};
 ghost use Rattle.order.specs.Best.{first_place};
 ghost use Rattle.packets.specs.Packets.{address_at};
 ghost use Rattle.matching.specs.Entry.{matches_entry};
@@ -16,6 +17,7 @@ use matching::{Entry, fits_packet};
 use numbers::{number2, number4};
 use packets::{read_packet, read_port, wrong_length};
 use payloads::Verdict;
+use refusals::Refusal;
 use table::limited;
 
 // A prepared tunnel. Mode 0: no rule fits; 1: the rule names no classifier; any other: by its entries,
@@ -52,49 +54,35 @@ fn entry_at(tunnel: &Tunnel, i: usize) -> Entry
     }
 }
 
-// The place of the first entry that matches; the number of entries where none does.
-fn first_match(tunnel: &Tunnel, frame: &[u8]) -> usize
-    ensures { result ≡ first_place (matches_entry frame.now) (entries_of tunnel.now) }
+// The place of the first entry that matches; None where none does.
+fn first_match(tunnel: &Tunnel, frame: &[u8]) -> Option<usize>
+    ensures { let place = first_place (matches_entry frame.now) (entries_of tunnel.now) in result ≡ cond (ltb place (limited_to 32 tunnel.now.count)) (Some place) None }
 {
-    let n = limited(tunnel.count, 32);
-    let packet = read_packet(frame);
-    if !packet.ipv4 {
-        return n;
-    }
+    let packet = read_packet(frame)?;
     let port = read_port(frame);
-    for i in 0..n {
-        if fits_packet(entry_at(tunnel, i), packet, port) {
-            return i;
-        }
-    }
-    n
+    let count = limited(tunnel.count, 32);
+    (0..count).position(|i| fits_packet(entry_at(tunnel, i), packet, port))
 }
 
 // Whether the frame has the address, which is compared in two parts.
 fn has_address(frame: &[u8], address: u64) -> bool
     ensures { result ≡ eqb (address_at frame.now) address }
 {
-    let high = number4(frame, 0) as u64;
-    let low = number2(frame, 4) as u64;
-    if high != address / 65536 {
-        return false;
-    }
-    if low != address % 65536 {
-        return false;
-    }
-    true
+    let high = u64::from(number4(frame, 0));
+    let low = u64::from(number2(frame, 4));
+    high == address / 65536 && low == address % 65536
 }
 
 // The verdict by a prepared tunnel that is lent.
-#[tactic(auto, unfolding(crate::specs::Prepared::prepared_verdict))]
+#[tactic(auto, unfolding(crate::specs::Prepared::prepared_verdict, payloads::specs::Judged::judged, refusals::specs::Refusals::number_of))]
 pub fn judge_lent(tunnel: &Tunnel, frame: &[u8]) -> Verdict
-    ensures { judged result ≡ judged (prepared_verdict tunnel.now frame.now) }
+    ensures { judged result ≡ prepared_verdict tunnel.now frame.now }
 {
     if wrong_length(frame) {
-        return Verdict::Refused(16);
+        return Verdict::Refused(Refusal::FrameLength);
     }
     if tunnel.mode == 0 {
-        return Verdict::Refused(17);
+        return Verdict::Refused(Refusal::NoRule);
     }
     if !has_address(frame, tunnel.address) {
         return Verdict::Other;
@@ -102,9 +90,8 @@ pub fn judge_lent(tunnel: &Tunnel, frame: &[u8]) -> Verdict
     if tunnel.mode == 1 {
         return Verdict::Forward(0);
     }
-    let k = first_match(tunnel, frame);
-    if k < limited(tunnel.count, 32) {
-        return Verdict::Forward(tunnel.numbers[k]);
+    match first_match(tunnel, frame) {
+        None => Verdict::Filtered,
+        Some(place) => Verdict::Forward(tunnel.numbers[place]),
     }
-    Verdict::Filtered
 }

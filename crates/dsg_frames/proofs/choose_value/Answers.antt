@@ -3,4 +3,4 @@
 use Rattle.dsg_frames.proofs.choose_value.Goals as goal
 
 pub returns : goal.returns
-returns c = rw (c.choice_from.ensures, c.choose_rule-chosen.ensures, c.ucid_from-upstream.ensures)
+returns c = rw (c.choice_from.ensures, c.choose_rule.ensures, c.ucid_from-upstream.ensures)

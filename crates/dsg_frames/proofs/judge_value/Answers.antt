@@ -1,7 +1,6 @@
 -- `dsg_frames::judge_value` gives `verdict_for`: what `judge_frame` answers, as numbers.
 -- Trusts: nothing.
-use Rattle.payloads.proofs.Judged.{judged_only}
 use Rattle.dsg_frames.proofs.judge_value.Goals as goal
 
 pub returns : goal.returns
-returns c = rw (c.verdict_from.ensures, judged_only _ _ c.judge_frame-verdict.ensures, c.ucid_from-upstream.ensures)
+returns c = rw (c.verdict_from.ensures, c.judge_frame-verdict.ensures, c.ucid_from-upstream.ensures)

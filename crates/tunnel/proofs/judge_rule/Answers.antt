@@ -11,7 +11,7 @@ use Rattle.table.specs.declared.Classifier.{Classifier}
 use Rattle.table.specs.declared.Table.{Table}
 use Rattle.table.specs.Table.{limited_to, classifiers_of, empty_classifier}
 use Rattle.choice.proofs.Laws.{taken_at}
-use Rattle.payloads.specs.declared.Verdict.TheVariants.{Forward}
+use Rattle.payloads.specs.Judged.{judged, Forward}
 use Rattle.packets.specs.Packets.{address_at}
 use Rattle.std.specs.Prelude.{Some}
 use Rattle.order.specs.Best.{within}
@@ -20,11 +20,11 @@ use Rattle.tunnel.specs.Judge.{rule_verdict}
 use Rattle.tunnel.proofs.judge_rule.Goals as goal
 
 pub returns-then-number6-rule : goal.returns-then-number6-rule
-unfolding rule_verdict address_at
+unfolding rule_verdict address_at judged
 returns-then-number6-rule c = simp (← c.number6.ensures, ne_eqb _ _ c.if-number6-rule.true)
 
 pub returns-then-rule-eq0 : goal.returns-then-rule-eq0
-unfolding rule_verdict address_at
+unfolding rule_verdict address_at judged
 returns-then-rule-eq0 c = simp (← c.number6.ensures, eq-eqb _ _ c.if-number6-rule.false, eq-eqb _ _ c.if-rule-eq0.true)
 
 -- a place that was found is one of the array
@@ -50,13 +50,13 @@ pub bounds-table-place : goal.bounds-table-place
 bounds-table-place c = found_below c.args.table.now _ _ (sym c.in-Some.is ∙ c.match_place.ensures)
 
 pub returns-in-None : goal.returns-in-None
-unfolding rule_verdict address_at
+unfolding rule_verdict address_at judged
 returns-in-None c =
     let e = sym c.in-None.is ∙ c.match_place.ensures in
     simp (← c.number6.ensures, eq-eqb _ _ c.if-number6-rule.false, ne_eqb _ _ c.if-rule-eq0.false, le-ltb _ _ (within_none _ _ e))
 
 pub returns-in-Some : goal.returns-in-Some
-unfolding rule_verdict address_at
+unfolding rule_verdict address_at judged
 returns-in-Some c =
     let t = c.args.table.now in
     let l : length t.classifiers ≡ 32 = search (rules, length_mapped) in

@@ -1,50 +1,45 @@
--- `tunnel_parts::first_match` gives the first entry that matches. The invariant: the first from `i` on is the first of all.
+-- `tunnel_parts::first_match` gives the first entry that matches, where one does.
 -- Trusts: nothing.
-use borrow.Author.Tests.{not-true, not-false}
+use borrow.Author.Tests.{le-ltb}
 use Prim.Native.Nat.{ℕ}
-use mathlib.Core.Path.{◌≡◌, sym, ◌∙◌}
-use mathlib.Core.Bool.{Bool, true}
-use mathlib.Core.List.{List}
-use native.Mathlib.Nat.{sub-zero, zero-add, le_antisymm}
-use Rattle.tunnel_parts.specs.declared.Tunnel.{Tunnel}
+use lib.ListN.{length}
+use Rattle.std.specs.List.{position_or_len, range_with_len}
+use Rattle.std.proofs.lemmas.List.FromFn.{length-range_with_len}
+use mathlib.Core.Path.{◌≡◌, refl, sym, ap, ◌∙◌, fun_ext}
+use mathlib.Core.Bool.{Bool}
+use native.Mathlib.Nat.{sub-zero, le_refl}
+use Rattle.std.proofs.Common.{rules, tests, Some}
+use Rattle.std.proofs.lemmas.Iterator.{YieldsList-from_range}
+use Rattle.std.proofs.lemmas.Iterator.Search.{position_from_yields_List}
+use Rattle.table.specs.Table.{limited_to}
+use Rattle.order.specs.Best.{first_place}
 use Rattle.matching.specs.Entry.{matches_entry, fits_packet}
-use Rattle.tunnel_parts.specs.Prepared.{entry_at, entries_of}
+use Rattle.tunnel_parts.specs.Prepared.{entry_at, list_from, entries_of}
 use Rattle.matching.proofs.Entries.{matches_entry_ipv4}
-use Rattle.tunnel_parts.proofs.Lists.{first_place_foreign, first_from_found, first_from_passed, first_from_end}
-use Rattle.packets.specs.declared.Packet.{Packet}
-use Rattle.packets.specs.declared.Port.{Port}
-use Rattle.packets.specs.Packets.{packet_of, port_of}
+use Rattle.tunnel_parts.proofs.Lists.{first_place_foreign, first_in_range}
+use Rattle.packets.specs.Packets.{as_packet}
 use Rattle.tunnel_parts.proofs.first_match.Goals as goal
 
+pub returns-in_err-packet : goal.returns-in_err-packet
+returns-in_err-packet c =
+    let place = first_place (matches_entry c.args.frame.now) (entries_of c.args.tunnel.now) in
+    let none = first_place_foreign c.args.tunnel.now c.args.frame.now _ (limited_to 32 c.args.tunnel.now.count) refl c.in_err-packet.ensures refl in
+    c.from_residual.ensures ∙ simp (none, le-ltb place place (le_refl place))
+
 -- what the test answers is whether the entry matches, since the packet is an IPv4 one
-told : (tu : Tunnel) (frame : List ℕ) (i : ℕ) (p : Packet) (q : Port) {r b : Bool}
-    → p ≡ packet_of frame → p.ipv4 ≡ true → q ≡ port_of frame → r ≡ fits_packet p q (entry_at tu i) → r ≡ b → matches_entry frame (entry_at tu i) ≡ b
-told tu frame i p q ep v eq er e = matches_entry_ipv4 frame p ep q eq v (entry_at tu i) ∙ sym er ∙ e
-
-pub returns-then-not-packet : goal.returns-then-not-packet
-returns-then-not-packet c =
-    first_place_foreign _ _ _ _ c.limited-n.ensures c.read_packet-packet.ensures (not-true c.read_packet-packet.result.ipv4 c.if-not-packet.true)
-
-pub loop-i-init : goal.loop-i-init
-unfolding entries_of
-loop-i-init c = rw (sub-zero, zero-add, c.limited-n.ensures)
-
--- the entry matches: it is the first
-pub returns-then-fits_packet : goal.returns-then-fits_packet
-returns-then-fits_packet c =
-    let v = not-false c.read_packet-packet.result.ipv4 c.if-not-packet.false in
-    let hit = told c.args.tunnel.now c.args.frame.now c.loop-i.i _ _ c.read_packet-packet.ensures v c.read_port-port.ensures (rw (← c.entry_at.ensures) c.fits_packet.ensures) c.if-fits_packet.true in
-    sym (first_from_found _ _ _ _ c.loop-i-test.true hit) ∙ c.loop-i.invariant
-
--- it does not: on with the next
-pub loop-i-preserved : goal.loop-i-preserved
-loop-i-preserved c =
-    let v = not-false c.read_packet-packet.result.ipv4 c.if-not-packet.false in
-    let miss = told c.args.tunnel.now c.args.frame.now c.loop-i.i _ _ c.read_packet-packet.ensures v c.read_port-port.ensures (rw (← c.entry_at.ensures) c.fits_packet.ensures) c.if-fits_packet.false in
-    sym (first_from_passed _ _ _ _ c.loop-i-test.true miss) ∙ c.loop-i.invariant
-
--- no entry is left
 pub returns : goal.returns
+unfolding entries_of
 returns c =
-    let all : c.loop-i.i ≡ c.limited-n.result = le_antisymm (c.loop-i.auto.i-end) c.loop-i-test.false in
-    rw (← all) (sym (first_from_end _ _ _ _ c.loop-i-test.false) ∙ c.loop-i.invariant)
+    let tu = c.args.tunnel.now in
+    let frame = c.args.frame.now in
+    let n = c.limited-count.result in
+    let packet = as_packet (Some c.in_ok-packet.packet) in
+    let port = c.read_port-port.result in
+    let fits : ℕ → Bool = λ i. fits_packet packet port (entry_at tu i) in
+    let matches : ℕ → Bool = λ i. matches_entry frame (entry_at tu i) in
+    let same : fits ≡ matches = fun_ext (λ i. sym (matches_entry_ipv4 frame packet c.in_ok-packet.ensures port c.read_port-port.ensures refl (entry_at tu i))) in
+    let found = position_from_yields_List fits _ _ c.position.result c.position.ensures.ran (YieldsList-from_range 0 n n refl (sub-zero n)) (λ x b q k. search (rules, tests)) in
+    let place : position_or_len fits (range_with_len 0 n) ≡ first_place (matches_entry frame) (entries_of tu) =
+    ap (λ (ok : ℕ → Bool). position_or_len ok (range_with_len 0 n)) same ∙ first_in_range (λ i. entry_at tu i) (matches_entry frame) 0 n ∙ ap (λ (m : ℕ). first_place (matches_entry frame) (list_from (λ i. entry_at tu i) 0 m)) c.limited-count.ensures in
+    let many : length (range_with_len 0 n) ≡ limited_to 32 tu.count = length-range_with_len 0 n ∙ c.limited-count.ensures in
+    found ∙ rw (place, many)
