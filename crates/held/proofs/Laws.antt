@@ -2,22 +2,25 @@
 --
 --   most_flag_div                     the greatest flag of a slot, as a quotient
 --   empty_slots_le, empty_slots_lt     at most n are empty; fewer where one is filled
---   some-none, some_one              one slot more, empty or not, of the loop that looks for a filled one
+--   some_filled                       one is filled where fewer than all are empty
 --   sound_to-at, sound_to-all          what it says of each slot; from each slot
 --   slot_sound-len                    a sound slot is not too long
 --   well_made-short, is_of_short       a well-made record has no length over 1,497
 -- Trusts: nothing.
 use Prim.Native.Nat.{ℕ, zero, suc, ◌+◌, ◌-◌, ◌/◌, ◌≤◌, ◌<◌}
-use mathlib.Core.Path.{◌≡◌, refl, sym}
-use mathlib.Core.Bool.{Bool, true, false, cond}
+use mathlib.Core.Path.{◌≡◌, refl, ◌∙◌}
+use mathlib.Core.Bool.{Bool, true, false, cond, not, ◌||◌}
 use mathlib.Core.List.{List}
 use mathlib.Core.Logic.{⊎_elim}
 use native.Mathlib.Omega.{arith}
+use Rattle.std.specs.List.{list_any}
+use Rattle.std.proofs.lemmas.Bool.Decides.{nat_tests}
+use Rattle.std.proofs.lemmas.List.Folds.{list_any_more}
 use native.Mathlib.Nat.{eq-or-lt_of_le, le_of_suc-le-suc, div-eq_of_lt, div-eq_of_lt-le}
 use native.Mathlib.Numerals.{add-one}
-use borrow.Author.Tests.{ltb-false, ltb-true, leb-true, ne_eqb, lt-ltb}
-use lib.ListN.{get_or}
-use lib.Dec.{ltb, leb, eqb, leb-suc-suc}
+use borrow.Author.Tests.{ltb-false, ltb-true, leb-true}
+use lib.ListN.{length, take, get_or}
+use lib.Dec.{ltb, leb, eqb}
 use Rattle.wire.proofs.Laws.{both}
 use Rattle.held.specs.Held.{is_filled, empty_slots, most_flag, slot_sound, sound_to, well_made, is_of}
 use Rattle.collection.specs.declared.Collection.{Collection}
@@ -45,14 +48,18 @@ empty_slots_lt f k (suc n) e q = ⊎_elim
     (λ (x : k < n). omega (arith, empty_slots_lt f k n e x, one_le (eqb (get_or f n 0) 0)))
     (eq-or-lt_of_le (le_of_suc-le-suc q))
 
--- a turn of the loop that looks for a filled slot: one that is, one that is not
-pub some_one : (f : List ℕ) (k : ℕ) → (get_or f k 0 ≡ 0 → ⊥) → true ≡ ltb (empty_slots f (suc k)) (suc k)
-unfolding empty_slots
-some_one f k ne = rw (ne_eqb (get_or f k 0) 0 ne) (sym (lt-ltb (empty_slots f k + 0) (suc k) (omega (arith, empty_slots_le f k))))
+last : (x m n : ℕ) → m ≤ n → (ltb m n || not (eqb x 0)) ≡ ltb (m + cond (eqb x 0) 1 0) (suc n)
+last x m n l = grind (arith, nat_tests)
 
-pub some-none : (f : List ℕ) (k : ℕ) → get_or f k 0 ≡ 0 → ltb (empty_slots f k) k ≡ ltb (empty_slots f (suc k)) (suc k)
+-- a filled slot is found among the first n where fewer than n are empty
+pub some_filled : (f : List ℕ) (n : ℕ) → n ≤ length f → list_any (λ x. not (eqb x 0)) (take n f) ≡ ltb (empty_slots f n) n
 unfolding empty_slots
-some-none f k e = rw (e, add-one) (sym (leb-suc-suc (suc (empty_slots f k)) k))
+some_filled f zero h = refl
+some_filled f (suc n) h =
+    let e = list_any_more (λ (x : ℕ). not (eqb x 0)) f n 0 (omega arith) in
+    let i = some_filled f n (omega arith) in
+    let l = empty_slots_le f n in
+    rw add-one at e ∙ rw i (last (get_or f n 0) (empty_slots f n) n l)
 
 pub sound_to-at : (f l : List ℕ) (n m k : ℕ) → sound_to f l n m ≡ true → k < m → slot_sound (get_or f k 0) (get_or l k 0) k n ≡ true
 unfolding sound_to

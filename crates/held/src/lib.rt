@@ -40,18 +40,14 @@ fn slot_sound(flag: u8, len: u16, k: u8, n: u8) -> bool
 }
 
 // Whether all sixteen slots are.
+#[tactic(auto, unfolding(crate::specs::Held::sound_to))]
 fn all_sound(filled: [u8; 16], lengths: [u16; 16], n: u8) -> bool
     requires { n ≤ 16 }
     ensures { result ≡ sound_to filled lengths n 16 }
 {
     let mut sound = true;
-    let mut k: u8 = 0;
-    while k < 16 {
-        let at = k as usize;
-        if !slot_sound(filled[at], lengths[at], k, n) {
-            sound = false;
-        }
-        k += 1;
+    for k in 0..16 {
+        sound &= slot_sound(filled[k], lengths[k], k as u8, n);
     }
     sound
 }
@@ -60,42 +56,23 @@ fn all_sound(filled: [u8; 16], lengths: [u16; 16], n: u8) -> bool
 fn any_filled(filled: [u8; 16]) -> bool
     ensures { result ≡ ltb (empty_slots filled 16) 16 }
 {
-    let mut some = false;
-    let mut k = 0;
-    while k < 16 {
-        if filled[k] != 0 {
-            some = true;
-        }
-        k += 1;
-    }
-    some
+    filled.iter().any(|flag| *flag != 0)
 }
 
 // Whether something is collected, and calls could have made the record.
+#[tactic(auto, using(std::proofs::lemmas::Bool::Decides::nat_tests), unfolding(crate::specs::Held::well_made))]
 fn well_made(held: Collection) -> bool
     ensures { result ≡ well_made held }
 {
-    let n = held.number;
-    let filled = held.filled;
-    let lengths = held.lengths;
-    if 16 < n {
-        return false;
-    }
-    if all_sound(filled, lengths, n) {
-        return any_filled(filled);
-    }
-    false
+    held.number <= 16
+        && all_sound(held.filled, held.lengths, held.number)
+        && any_filled(held.filled)
 }
 
 // Whether the held collection is the one of this count and number.
+#[tactic(auto, using(std::proofs::lemmas::Bool::Decides::nat_tests), unfolding(crate::specs::Held::is_of))]
 pub fn is_of(held: Collection, count: u8, number: u8) -> bool
     ensures { result ≡ is_of held count number }
 {
-    if !well_made(held) {
-        return false;
-    }
-    if held.count != count {
-        return false;
-    }
-    held.number == number
+    well_made(held) && held.count == count && held.number == number
 }

@@ -1,20 +1,16 @@
--- `held::any_filled` says whether fewer than sixteen slots are empty. The loop's invariant: `some` says whether fewer than `k` of the
--- first `k` are; what falls is 16 - k.
+-- `held::any_filled` says whether fewer than sixteen slots are empty.
 -- Trusts: nothing.
-use mathlib.Core.Path.{◌∙◌}
-use native.Mathlib.Omega.{arith}
-use native.Mathlib.Numerals.{add-one}
-use Rattle.held.proofs.Laws.{some_one, some-none}
+use Rattle.std.proofs.Common.{◌≡◌, ℕ, length, take, not, eqb, ◌∙◌, arith, rules, tests}
+use Rattle.std.proofs.lemmas.Iterator.{YieldsList-from_slice}
+use Rattle.std.proofs.lemmas.Iterator.Search.{any_from_yields_List}
+use lib.Seq.{take_all}
+use Rattle.held.proofs.Laws.{some_filled}
 use Rattle.held.proofs.any_filled.Goals as goal
-use Rattle.held.proofs.any_filled.Goals.{then-filled-k-ne0, else-filled-k-ne0}
 
-pub loop-k-preserved : goal.loop-k-preserved
-loop-k-preserved c =
+pub returns : goal.returns
+returns c =
     let f = c.args.filled in
-    let k = c.loop-k.k in (
-      omega arith,
-      elim c.if-filled-k-ne0.branch [
-        | then-filled-k-ne0 w ↦ w.some-is ∙ rw add-one (some_one f k w.if-filled-k-ne0.true)
-        | else-filled-k-ne0 w ↦ w.some-is ∙ c.loop-k.invariant.1 ∙ rw add-one (some-none f k w.if-filled-k-ne0.false)
-      ],
-    )
+    let long : length f ≡ 16 = search rules in
+    let all : take 16 f ≡ f = take_all 16 f (omega arith) in
+    any_from_yields_List (λ (x : ℕ). not (eqb x 0)) _ _ c.any.result c.any.ensures.ran (YieldsList-from_slice f cc) (λ x b q k. search (rules, tests))
+    ∙ rw all at (some_filled f 16 (omega arith))
