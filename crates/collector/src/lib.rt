@@ -136,6 +136,7 @@ fn accept(mut next: Collection, slots: &mut [u8], join: &mut [u8], piece: Piece)
 }
 
 // One body: its answer and the record after it; the piece is stored, and a message of several pieces joined.
+// Kept: the two buffers are lent one by one, as C lends them to `dsg_collect` (include/dsg.h).
 pub fn collect(held: Collection, slots: &mut [u8], join: &mut [u8], body: &[u8]) -> Outcome
     ensures { record { answer = said result.answer; held = result.held; slots = slots.new; join = join.new } ≡ collect_step held slots.old join.old body.now }
 {

@@ -2,6 +2,7 @@
 --
 --   same_bytes_true, same_bytes_refl     true means equal lists, and equal lists are the same
 --   same_bytes-length, same_bytes_snoc   other lengths are other bytes; one byte more
+--   same_pointwise                       what `==` says of two slices
 -- Trusts: nothing.
 use Prim.Native.Nat.{ℕ}
 use mathlib.Core.Path.{◌≡◌, refl, sym, ap}
@@ -11,6 +12,7 @@ use native.Mathlib.Omega.{arith}
 use borrow.Author.Tests.{eqb-true, eq-eqb}
 use lib.ListN.{length}
 use lib.Dec.{eqb}
+use Rattle.std.specs.Cmp.Lexicographic.{pointwise}
 use Rattle.wire.proofs.Laws.{clash, both}
 use Rattle.compare.specs.Compare.{same_bytes}
 
@@ -41,3 +43,11 @@ same_bytes_snoc [] [] x y h = and-true (eqb x y)
 same_bytes_snoc [] (v ∷ b) x y h = absurd (omega arith)
 same_bytes_snoc (u ∷ a) [] x y h = absurd (omega arith)
 same_bytes_snoc (u ∷ a) (v ∷ b) x y h = rw (same_bytes_snoc a b x y (omega arith)) (sym (and_assoc (eqb u v) (same_bytes a b) (eqb x y)))
+
+-- what `==` says of two slices
+pub same_pointwise : (a b : List ℕ) → pointwise eqb a b ≡ same_bytes a b
+unfolding same_bytes
+same_pointwise [] [] = refl
+same_pointwise [] (y ∷ b) = refl
+same_pointwise (x ∷ a) [] = refl
+same_pointwise (x ∷ a) (y ∷ b) = rw (same_pointwise a b) refl

@@ -17,7 +17,7 @@ use receiver::Report;
 use refusals::Refusal;
 use table::Table;
 
-// Kept: lent to C (include/dsg.h), fields, order and types, as of `Received`.
+// Kept: C is given it (include/dsg.h): fields, order and types.
 // What a body is answered. Kind 0: refused, `number` says why. 1: a repeat. 2: waiting for `empty` slots.
 // 3, 4: complete; the message is `length` bytes from `start` of the body (3) or of the join buffer (4).
 // 5: dropped, by `number` (21) at byte `offset`.
@@ -32,6 +32,7 @@ pub struct Collected {
     pub offset: usize,
 }
 
+// Kept: C is given it (include/dsg.h): fields, order and types.
 // What a body that goes all the way is answered. Kind 0: refused, `number` says why. 1: a repeat. 2: waiting
 // for `empty` slots. 3: the table is the message's. 4: the message is refused, by `number` at byte `offset`.
 // 5: the collection is dropped, by `number` (21) at byte `offset`.
@@ -123,6 +124,7 @@ fn collected_from(answer: Answer, number: u8) -> Collected
 
 // The same record, copied field by field. Copied whole it is stored in blocks of sixteen bytes: `filled` and `lengths` lie across them,
 // and a processor that reads such a list waits until its blocks are written.
+// Kept: as a plain copy it makes loose collecting slower (docs/DECISIONS.md, D-074).
 fn apart(held: Collection) -> Collection
     ensures { result ≡ held }
 {

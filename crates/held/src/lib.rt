@@ -33,10 +33,7 @@ fn slot_sound(flag: u8, len: u16, k: u8, n: u8) -> bool
     requires { (k < 16) × (n ≤ 16) }
     ensures { result ≡ slot_sound flag len k n }
 {
-    if most_flag(k, n) < flag {
-        return false;
-    }
-    len <= most_length(flag)
+    flag <= most_flag(k, n) && len <= most_length(flag)
 }
 
 // Whether all sixteen slots are.

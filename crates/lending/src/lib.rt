@@ -20,6 +20,7 @@ use messages::{joined_part, own_part};
 // else as a part of the join buffer; the other is empty, and both are where none is complete. The join buffer
 // is lent back whole beside it, since the message's borrow spends the caller's: while that lives every byte is said, and what
 // the buffer holds afterwards is not.
+// Kept: two slices with their own lifetimes, the form that document 01 names.
 #[derive(Clone, Copy)]
 pub struct Lent<'b, 'j> {
     pub outcome: Outcome,

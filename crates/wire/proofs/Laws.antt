@@ -17,7 +17,7 @@ use mathlib.Core.Logic.{◌⊎◌, inl, inr}
 use native.Mathlib.Omega.{arith}
 use borrow.Author.Tests.{leb-true, le-leb, lt-leb}
 use lib.ListN.{length, get_or, take, drop, length-append, length-take, length-drop, take-append-drop}
-use lib.Seq.{paste, take-length, take_all, length-take-le, take-append-le, drop-append-le, drop-append-add, drop-drop, take_at, drop_at, get_or-take, get_or-drop}
+use lib.Seq.{take_all, length-take-le, take-append-le, drop-append-le, drop-append-add, drop-drop, take_at, drop_at, get_or-take, get_or-drop}
 use lib.Dec.{leb}
 use Rattle.wire.specs.Bytes.{pasted, concat}
 
@@ -30,10 +30,6 @@ pasted-fits t at p h = rw (le-leb (at + length p) (length t) h) refl
 pub pasted_not : (t : List ℕ) (at : ℕ) (p : List ℕ) → length t < at + length p → pasted t at p ≡ t
 unfolding pasted
 pasted_not t at p h = rw (lt-leb (at + length p) (length t) h) refl
-
--- the kit's `paste`, of the whole piece
-pub paste_pasted : (t : List ℕ) (at : ℕ) (p : List ℕ) → at + length p ≤ length t → paste t at p (length p) ≡ pasted t at p
-paste_pasted t at p h = rw (take-length, pasted-fits t at p h) (append_assoc (take at t) p (drop (at + length p) t))
 
 -- what holds of a pasted list where the piece fits, and of the target, holds of it anyway
 by_fit : (P : List ℕ → Type 0) (t : List ℕ) (at : ℕ) (p : List ℕ) → (at + length p ≤ length t → P (take at t ++ (p ++ drop (at + length p) t))) → P t → P (pasted t at p)
