@@ -2,24 +2,22 @@
 --
 --   most_flag_div                     the greatest flag of a slot, as a quotient
 --   empty_slots_le, empty_slots_lt     at most n are empty; fewer where one is filled
---   some_filled                       one is filled where fewer than all are empty
+--   some_more                         one slot more of the loop that looks for a filled one
 --   sound_to-at, sound_to-all          what it says of each slot; from each slot
 --   slot_sound-len                    a sound slot is not too long
 --   well_made-short, is_of_short       a well-made record has no length over 1,497
 -- Trusts: nothing.
 use Prim.Native.Nat.{ℕ, zero, suc, ◌+◌, ◌-◌, ◌/◌, ◌≤◌, ◌<◌}
-use mathlib.Core.Path.{◌≡◌, refl, ◌∙◌}
+use mathlib.Core.Path.{◌≡◌, refl}
 use mathlib.Core.Bool.{Bool, true, false, cond, not, ◌||◌}
 use mathlib.Core.List.{List}
 use mathlib.Core.Logic.{⊎_elim}
 use native.Mathlib.Omega.{arith}
-use Rattle.std.specs.List.{list_any}
 use Rattle.std.proofs.lemmas.Bool.Decides.{nat_tests}
-use Rattle.std.proofs.lemmas.List.Folds.{list_any_more}
 use native.Mathlib.Nat.{eq-or-lt_of_le, le_of_suc-le-suc, div-eq_of_lt, div-eq_of_lt-le}
 use native.Mathlib.Numerals.{add-one}
 use borrow.Author.Tests.{ltb-false, ltb-true, leb-true}
-use lib.ListN.{length, take, get_or}
+use lib.ListN.{get_or}
 use lib.Dec.{ltb, leb, eqb}
 use Rattle.wire.proofs.Laws.{both}
 use Rattle.held.specs.Held.{is_filled, empty_slots, most_flag, slot_sound, sound_to, well_made, is_of}
@@ -48,18 +46,12 @@ empty_slots_lt f k (suc n) e q = ⊎_elim
     (λ (x : k < n). omega (arith, empty_slots_lt f k n e x, one_le (eqb (get_or f n 0) 0)))
     (eq-or-lt_of_le (le_of_suc-le-suc q))
 
-last : (x m n : ℕ) → m ≤ n → (ltb m n || not (eqb x 0)) ≡ ltb (m + cond (eqb x 0) 1 0) (suc n)
-last x m n l = grind (arith, nat_tests)
-
--- a filled slot is found among the first n where fewer than n are empty
-pub some_filled : (f : List ℕ) (n : ℕ) → n ≤ length f → list_any (λ x. not (eqb x 0)) (take n f) ≡ ltb (empty_slots f n) n
+-- one slot more of the loop that looks for a filled one
+pub some_more : (f : List ℕ) (k : ℕ) → ltb (empty_slots f (k + 1)) (k + 1) ≡ (ltb (empty_slots f k) k || not (eqb (get_or f k 0) 0))
 unfolding empty_slots
-some_filled f zero h = refl
-some_filled f (suc n) h =
-    let e = list_any_more (λ (x : ℕ). not (eqb x 0)) f n 0 (omega arith) in
-    let i = some_filled f n (omega arith) in
-    let l = empty_slots_le f n in
-    rw add-one at e ∙ rw i (last (get_or f n 0) (empty_slots f n) n l)
+some_more f k =
+    let l = empty_slots_le f k in
+    rw add-one (grind (arith, nat_tests))
 
 pub sound_to-at : (f l : List ℕ) (n m k : ℕ) → sound_to f l n m ≡ true → k < m → slot_sound (get_or f k 0) (get_or l k 0) k n ≡ true
 unfolding sound_to
