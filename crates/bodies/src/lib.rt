@@ -48,7 +48,9 @@ fn list_report(report: Report, count: u8, table: Table, out: &mut [u8]) -> Resul
         Report::Repeat => notices::list_waiting(0, out),
         Report::Waiting(empty) => notices::list_waiting(empty, out),
         Report::Accepted => listing::list_table(count, table, out),
-        Report::MessageRefused(number, offset) => notices::list_refusal(number, offset, out),
+        Report::MessageRefused(fault) => {
+            notices::list_refusal(fault.refusal.number(), fault.offset, out)
+        }
         Report::Dropped(cut) => notices::list_refusal(21, cut, out),
     }
 }

@@ -178,10 +178,10 @@ fn received_from(report: Report) -> Received
             kind: 3,
             ..NOTHING_RECEIVED
         },
-        Report::MessageRefused(number, at) => Received {
+        Report::MessageRefused(fault) => Received {
             kind: 4,
-            number: number as u32,
-            offset: at,
+            number: fault.refusal.number() as u32,
+            offset: fault.offset,
             ..NOTHING_RECEIVED
         },
         Report::Dropped(offset) => Received {

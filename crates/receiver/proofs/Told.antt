@@ -14,7 +14,7 @@ report_as (body_refused n) = BodyRefused (refusal_from n)
 report_as again = Repeat
 report_as (waiting k) = Waiting k
 report_as accepted = Accepted
-report_as (message_refused n offset) = MessageRefused n offset
+report_as (message_refused n offset) = MessageRefused (record { refusal = refusal_from n; offset = offset })
 report_as (dropped cut) = Dropped cut
 
 report_as_back : (r : Report) → report_as (told r) ≡ r
@@ -23,7 +23,7 @@ report_as_back (BodyRefused r) = ap (λ (q : Refusal). BodyRefused q) (refusal_f
 report_as_back Repeat = refl
 report_as_back (Waiting k) = refl
 report_as_back Accepted = refl
-report_as_back (MessageRefused n offset) = refl
+report_as_back (MessageRefused f) = ap (λ (q : Refusal). MessageRefused (record { refusal = q; offset = f.offset })) (refusal_from-back f.refusal)
 report_as_back (Dropped cut) = refl
 
 pub told_only : (r s : Report) → told r ≡ told s → r ≡ s

@@ -38,7 +38,7 @@ told (BodyRefused r) = body_refused (number_of r)
 told Repeat = again
 told (Waiting k) = waiting k
 told Accepted = accepted
-told (MessageRefused n offset) = message_refused n offset
+told (MessageRefused f) = message_refused (number_of f.refusal) f.offset
 told (Dropped cut) = dropped cut
 
 -- the verdict on a complete message

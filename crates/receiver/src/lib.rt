@@ -29,8 +29,8 @@ pub enum Report {
     Waiting(u8),
     // The message is complete, and the table is now its own.
     Accepted,
-    // The message is complete and refused, with this number at this byte of it; the table is as it was.
-    MessageRefused(u8, usize),
+    // The message is complete and refused, at a byte of it; the table is as it was.
+    MessageRefused(Fault),
     // The message is complete, and was cut inside an element, first at this byte: refusal 21. Nothing is collected, and the table is
     // as it was.
     Dropped(usize),
@@ -51,7 +51,7 @@ fn report_of(verdict: Result<(), Fault>) -> Report
 {
     match verdict {
         Ok(()) => Report::Accepted,
-        Err(fault) => Report::MessageRefused(fault.refusal.number(), fault.offset),
+        Err(fault) => Report::MessageRefused(fault),
     }
 }
 
