@@ -24,9 +24,7 @@ use Rattle.rows.specs.Rows.{tested_at}
 use Rattle.rows.specs.declared.Tally.{Tally}
 use Rattle.rows.specs.Rows.{Tested}
 use Rattle.rows.proofs.Laws.{tested_at-placed}
-use Rattle.named.specs.Named.{unanswered, named_place, placed, lone_number}
-use Rattle.named.specs.declared.Found.{Found}
-use Rattle.named.specs.declared.Found.TheVariants.{Nothing, Number}
+use Rattle.named.specs.Named.{Found, Nothing, Number, unanswered, named_place, placed, lone_number}
 use Rattle.reader.specs.Take.{with_element, is_taken}
 use Rattle.reader.specs.Read.{refusal, read_lone, read_row, read_table}
 use Rattle.reader.specs.Read.{Refused as Refuses}

@@ -16,9 +16,7 @@ use Rattle.table.specs.Table.{empty_rule, rules_of, numbers_of}
 use Rattle.table.specs.declared.Rule.{Rule}
 use Rattle.table.specs.declared.Table.{Table}
 use Rattle.listed.specs.Listed.{is_listed}
-use Rattle.named.specs.Named.{classifier_numbers, lone_in, lone_of, unanswered}
-use Rattle.named.specs.declared.Found.{Found}
-use Rattle.named.specs.declared.Found.TheVariants.{Number}
+use Rattle.named.specs.Named.{Found, Number, classifier_numbers, lone_in, lone_of, unanswered}
 
 -- of the numbers `ns` the j-th is the first that is not carried
 pub record FirstNumber (carried ns : List ℕ) (j : ℕ) : Type 0 where

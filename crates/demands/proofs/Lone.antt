@@ -35,8 +35,7 @@ use Rattle.rows.specs.Tests.{is_row, row_end, none_counted, empty_tally}
 use Rattle.rows.specs.Rows as rows
 use Rattle.rows.specs.Rows.{element_with, row_step, row_of, element_of, tested_at}
 use Rattle.listed.specs.Listed.{is_listed}
-use Rattle.named.specs.Named.{classifier_numbers, unanswered, named_place, lone_number}
-use Rattle.named.specs.declared.Found.TheVariants.{Number}
+use Rattle.named.specs.Named.{Number, classifier_numbers, unanswered, named_place, lone_number}
 use Rattle.reader.specs.Take.{with_rule, with_element, table_of, is_taken}
 use Rattle.reader.specs.Read.{read_table}
 use Rattle.reader.specs.Read.{Refused}

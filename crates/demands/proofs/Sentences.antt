@@ -30,8 +30,7 @@ use Rattle.clients.specs.Clients.{with_client_child, clients_in}
 use Rattle.rules.specs.Rules.{with_rule_child, rule_at}
 use Rattle.order.specs.Best.{any_of}
 use Rattle.choice.specs.Choose.{Ucid, lists_client, fits_client}
-use Rattle.named.specs.Named.{unanswered, lone_number}
-use Rattle.named.specs.declared.Found.TheVariants.{Nothing}
+use Rattle.named.specs.Named.{Nothing, unanswered, lone_number}
 use Rattle.reader.specs.Take.{with_rule, with_element, is_taken}
 use Rattle.reader.specs.Read.{read_table}
 use Rattle.reader.specs.Read.{Accepted}

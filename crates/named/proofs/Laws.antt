@@ -22,10 +22,7 @@ use Rattle.table.specs.declared.Rule.{Rule}
 use Rattle.table.specs.declared.Table.{Table}
 use Rattle.children.specs.Rows.{Row, done, bad, item, row_with, row_from, row_in, row_of_head, row_inside, type_at, places_of}
 use Rattle.listed.specs.Listed.{is_listed}
-use Rattle.named.specs.Named.{classifier_numbers, lone_in, lone_of, unanswered, named_place, placed, lone_number}
-use Rattle.named.specs.declared.Found.{Found}
-use Rattle.named.specs.declared.Found.TheVariants.{Nothing, Number}
-use Rattle.named.specs.declared.Lone.TheVariants.{Answered, At}
+use Rattle.named.specs.Named.{Found, Nothing, Number, Answered, At, classifier_numbers, lone_in, lone_of, unanswered, named_place, placed, lone_number}
 
 -- every element of the row, and its bad head, stand in the message
 abbrev pub Within : List ℕ → Row → Type 0

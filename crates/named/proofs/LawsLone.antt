@@ -19,10 +19,7 @@ use Rattle.table.specs.declared.Classifier.{Classifier}
 use Rattle.table.specs.declared.Table.{Table}
 use Rattle.table.proofs.Laws.{limited_to_le}
 use Rattle.listed.specs.Listed.{is_listed}
-use Rattle.named.specs.Named.{lone_in, lone_of, unanswered, named_place, lone_number}
-use Rattle.named.specs.declared.Found.{Found}
-use Rattle.named.specs.declared.Found.TheVariants.{Nothing, Number}
-use Rattle.named.specs.declared.Lone.TheVariants.{Answered, At}
+use Rattle.named.specs.Named.{Found, Nothing, Number, Answered, At, lone_in, lone_of, unanswered, named_place, lone_number}
 use Rattle.named.proofs.Lists.{front-next, front-end}
 
 -- the rules from the i-th on, of which there are so many as the count says

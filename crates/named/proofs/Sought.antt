@@ -1,20 +1,38 @@
--- The paper's words tell the answers of test 15 apart (specs/Sought.antt).
+-- The words of test 15 tell the answers apart (specs/Sought.antt).
 --
---   sought_only   two answers that are told alike are the same
+--   sought_only    two answers that are told alike are the same
+--   found_nothing, found_number     what the search found
+--   sought_none, sought_some        what test 15 says
 -- Trusts: nothing.
 use mathlib.Core.Path.{◌≡◌, refl, sym, ap, ◌∙◌}
-use Rattle.named.specs.declared.Lone.{Lone}
-use Rattle.named.specs.declared.Lone.TheVariants.{Answered, At}
-use Rattle.named.specs.Sought.{Sought, answered, refused, sought}
+use Rattle.std.proofs.Common.{ℕ, Option, Some, None}
+use Rattle.named.specs.Named.{Found, Nothing, Number, Lone, Answered, At}
+use Rattle.named.specs.Sought.{found, sought}
 
-lone_as : Sought → Lone
-lone_as answered = Answered
-lone_as (refused n offset) = At offset
+answer_as : Lone → Option ℕ
+answer_as Answered = None
+answer_as (At offset) = Some offset
 
-lone_as_back : (l : Lone) → lone_as (sought l) ≡ l
-unfolding sought lone_as
-lone_as_back Answered = refl
-lone_as_back (At offset) = refl
+answer_as_back : (o : Option ℕ) → answer_as (sought o) ≡ o
+unfolding sought answer_as
+answer_as_back None = refl
+answer_as_back (Some offset) = refl
 
-pub sought_only : (l k : Lone) → sought l ≡ sought k → l ≡ k
-sought_only l k e = sym (lone_as_back l) ∙ ap lone_as e ∙ lone_as_back k
+pub sought_only : (o p : Option ℕ) → sought o ≡ sought p → o ≡ p
+sought_only o p e = sym (answer_as_back o) ∙ ap answer_as e ∙ answer_as_back p
+
+pub found_nothing : {o : Option (ℕ × ℕ)} → o ≡ None → found o ≡ Nothing
+unfolding found
+found_nothing e = simp e
+
+pub found_number : {o : Option (ℕ × ℕ)} {p : ℕ × ℕ} → o ≡ Some p → found o ≡ Number p.0 p.1
+unfolding found
+found_number e = simp e
+
+pub sought_none : {o : Option ℕ} → o ≡ None → sought o ≡ Answered
+unfolding sought
+sought_none e = simp e
+
+pub sought_some : {o : Option ℕ} {at : ℕ} → o ≡ Some at → sought o ≡ At at
+unfolding sought
+sought_some e = simp e

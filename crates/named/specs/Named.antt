@@ -1,5 +1,7 @@
 -- Named: the classifier numbers that rules name, and test 15 (document 01, "Refusal numbers").
 --
+--   Found                   what the search over a table finds: Nothing, or Number i j, that rule i's number j is the first that is not carried
+--   Lone                    what test 15 says: every number is Answered, or the first 50.6 that is not stands At a place
 --   classifier_numbers t    the numbers that the classifiers of t carry
 --   unanswered t           the first number that a rule of t names and no classifier of t carries, as rule i, number j; or Nothing
 --   named_place msg i j     where the j-th 50.6 of the i-th 50 stands (both counted from 0)
@@ -14,10 +16,14 @@ use Rattle.table.specs.declared.Rule.{Rule}
 use Rattle.table.specs.declared.Table.{Table}
 use Rattle.listed.specs.Listed.{is_listed}
 use Rattle.children.specs.Rows.{row_in, row_inside, places_of}
-use Rattle.named.specs.declared.Found.{Found}
-use Rattle.named.specs.declared.Found.TheVariants.{Nothing, Number}
-use Rattle.named.specs.declared.Lone.{Lone}
-use Rattle.named.specs.declared.Lone.TheVariants.{Answered, At}
+
+pub data Found : Type 0 where
+  Nothing : Found
+  Number : ℕ → ℕ → Found
+
+pub data Lone : Type 0 where
+  Answered : Lone
+  At : ℕ → Lone
 
 abbrev pub classifier_numbers : Table → List ℕ
 classifier_numbers t = map (λ q. q.number) (classifiers_of t)

@@ -1,16 +1,16 @@
--- Sought: the answer of test 15, in the paper's words (document 01, refusal 15).
+-- Sought: the answers of the code, in the words of the definitions (specs/Named.antt; document 01, refusal 15).
 --
---   Sought, sought l   each case of an answer, with its number and offset: every number is answered; refusal 15 at the 50.6 that is not
+--   found f     what the search over a table found: nothing, or rule i's number j
+--   sought o    test 15: every number is answered, or refusal 15 stands at this offset
 --
 -- Trusts: nothing.
-use Rattle.std.specs.Prelude.{ℕ}
-use Rattle.named.specs.declared.Lone.{Lone}
-use Rattle.named.specs.declared.Lone.TheVariants.{Answered, At}
+use Rattle.std.specs.Prelude.{ℕ, Option, Some, None}
+use Rattle.named.specs.Named.{Found, Nothing, Number, Lone, Answered, At}
 
-pub data Sought : Type 0 where
-  answered : Sought
-  refused : ℕ → ℕ → Sought
+unfoldable pub found : Option (ℕ × ℕ) → Found
+found None = Nothing
+found (Some p) = Number p.0 p.1
 
-unfoldable pub sought : Lone → Sought
-sought Answered = answered
-sought (At offset) = refused 15 offset
+unfoldable pub sought : Option ℕ → Lone
+sought None = Answered
+sought (Some offset) = At offset

@@ -8,28 +8,10 @@ ghost use Rattle.std.specs.Prelude.{◌≡◌, ◌≤◌, length, get_or};
 ghost use Rattle.children.specs.Children.{left, places_in};
 ghost use Rattle.table.specs.Table.{limited_to};
 ghost use Rattle.named.specs.Named.{unanswered, named_place, lone_number};
-ghost use Rattle.named.specs.Sought.{sought};
+ghost use Rattle.named.specs.Sought.{found, sought};
 
 use children::Children;
 use table::{Rule, Table};
-
-// Whether every classifier number that the rules name is carried by a classifier.
-#[derive(Clone, Copy)]
-pub enum Lone {
-    // Every one is.
-    Answered,
-    // The type byte of the first 50.6 that is not answered stands here.
-    At(usize),
-}
-
-// What the search over a table finds.
-#[derive(Clone, Copy)]
-pub enum Found {
-    // Every number is carried.
-    Nothing,
-    // Rule i's number j is the first that is not.
-    Number(usize, usize),
-}
 
 // Where the n-th of these elements of this type stands, counted from 0; 0 if there are fewer.
 fn nth_place(elements: Children, kind: u8, n: usize) -> usize
@@ -64,47 +46,34 @@ fn named_count(rule: Rule) -> usize
     table::limited(rule.numbercount, 8)
 }
 
-// The first number that a rule names and that no classifier carries. At a classifier that carries a number the search goes on
-// with the next number, and at the first number without one it is left.
-fn first_unanswered(table: Table) -> Found
-    ensures { result ≡ unanswered table }
+// The first number that a rule names and that no classifier carries: rule i's number j. At a classifier that carries a number the
+// search goes on with the next number, and at the first number without one it is left.
+fn first_unanswered(table: Table) -> Option<(usize, usize)>
+    ensures { found result ≡ unanswered table }
 {
-    let mut found = Found::Nothing;
     let rules = table::limited(table.rulecount, 32);
     let classifiers = table::limited(table.classifiercount, 32);
-    let mut i = 0;
-    'search: while i < rules {
+    for i in 0..rules {
         let rule = table.rules[i];
         let numbers = named_count(rule);
-        let mut j = 0;
-        'number: while j < numbers {
+        'number: for j in 0..numbers {
             let number = rule.numbers[j];
-            let mut k = 0;
-            while k < classifiers {
+            for k in 0..classifiers {
                 let classifier = table.classifiers[k];
                 if classifier.number == number {
-                    j += 1;
                     continue 'number;
                 }
-                k += 1;
             }
-            found = Found::Number(i, j);
-            break 'search;
+            return Some((i, j));
         }
-        i += 1;
     }
-    found
+    None
 }
 
-// Test 15 of the table that a message's elements leave.
-pub fn lone_number(message: &[u8], table: Table) -> Lone
-    ensures { sought result ≡ sought (lone_number message.now table) }
+// Test 15 of the table that a message's elements leave: where the first 50.6 stands whose number no classifier carries.
+pub fn lone_number(message: &[u8], table: Table) -> Option<usize>
+    ensures { sought result ≡ lone_number message.now table }
 {
-    match first_unanswered(table) {
-        Found::Nothing => Lone::Answered,
-        Found::Number(i, j) => {
-            let place = named_place(message, i, j);
-            Lone::At(place)
-        }
-    }
+    let (i, j) = first_unanswered(table)?;
+    Some(named_place(message, i, j))
 }

@@ -24,8 +24,7 @@ use Rattle.children.specs.Rows.{Row, done, item, row_from, row_in, row_inside}
 use Rattle.clients.specs.Clients.{with_client, client_at, with_client_child, clients_in}
 use Rattle.rules.specs.Rules.{with_ucids, with_named, with_rule_child, rule_at}
 use Rattle.configurations.specs.Configurations.{with_channel, with_configuration_child, configuration_at}
-use Rattle.named.specs.Named.{unanswered}
-use Rattle.named.specs.declared.Found.TheVariants.{Nothing}
+use Rattle.named.specs.Named.{Nothing, unanswered}
 use Rattle.reader.specs.Take.{with_rule, with_element, is_taken}
 use Rattle.reader.specs.Read.{read_table}
 use Rattle.reader.proofs.LawsRead.{is_taken_rule, is_taken_configuration, with_element-rule, with_element_configuration}

@@ -19,8 +19,7 @@ use Rattle.rows.specs.Rows.{tested_at}
 use Rattle.rows.specs.declared.Tally.{Tally}
 use Rattle.rows.specs.Rows.{Tested}
 use Rattle.children.specs.Rows.{Row, done, item, row_in}
-use Rattle.named.specs.Named.{unanswered, lone_number}
-use Rattle.named.specs.declared.Found.TheVariants.{Nothing}
+use Rattle.named.specs.Named.{Nothing, unanswered, lone_number}
 use Rattle.reader.specs.Take.{with_element, is_taken}
 use Rattle.reader.specs.Read.{refusal, read_row, read_table}
 use Rattle.reader.specs.Read.{Reading}

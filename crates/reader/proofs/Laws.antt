@@ -23,10 +23,7 @@ use Rattle.rows.specs.Rows.{tested_at}
 use Rattle.rows.specs.declared.Tally.{Tally}
 use Rattle.rows.specs.Rows.{Tested}
 use Rattle.rows.proofs.Laws.{tested_at-placed}
-use Rattle.named.specs.Named.{unanswered, lone_number}
-use Rattle.named.specs.declared.Found.TheVariants.{Nothing}
-use Rattle.named.specs.declared.Lone.{Lone}
-use Rattle.named.specs.declared.Lone.TheVariants.{Answered, At}
+use Rattle.named.specs.Named.{Nothing, Lone, Answered, At, unanswered, lone_number}
 use Rattle.named.proofs.Laws.{Within, from_within, lone_number-answered, lone_number_within}
 use Rattle.reader.specs.Take.{with_element, table_of, is_taken}
 use Rattle.reader.specs.Read.{refusal, read_lone, read_row, read_table}

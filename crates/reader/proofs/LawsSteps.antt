@@ -14,9 +14,7 @@ use Rattle.refusals.specs.declared.Fault.{Fault}
 use Rattle.table.specs.declared.Table.{Table}
 use Rattle.configurations.specs.Configurations.{configuration_at}
 use Rattle.configurations.specs.declared.Configuration.{Configuration}
-use Rattle.named.specs.Named.{lone_number}
-use Rattle.named.specs.declared.Lone.{Lone}
-use Rattle.named.specs.declared.Lone.TheVariants.{Answered, At}
+use Rattle.named.specs.Named.{Lone, Answered, At, lone_number}
 use Rattle.reader.specs.Take.{with_configuration}
 use Rattle.reader.specs.Read.{read_lone, read_table}
 use Rattle.reader.specs.Steps.{handed, finished, read_all, TakesUp, ReadsAs}

@@ -14,9 +14,7 @@ use Rattle.children.specs.Rows.{Row, done, bad, item, row_in}
 use Rattle.rows.specs.Tests.{empty_tally}
 use Rattle.rows.specs.Rows.{tested_at}
 use Rattle.rows.specs.declared.Tally.{Tally}
-use Rattle.named.specs.Named.{lone_number}
-use Rattle.named.specs.declared.Lone.{Lone}
-use Rattle.named.specs.declared.Lone.TheVariants.{Answered, At}
+use Rattle.named.specs.Named.{Lone, Answered, At, lone_number}
 use Rattle.reader.specs.Take.{with_element, is_taken}
 
 -- what became of a message: it is a table; it is refused, with the number and the offset of the type byte concerned (0 for number 3)

@@ -13,7 +13,6 @@ ghost use Rattle.reader.specs.Read.{read_table};
 ghost use Rattle.reader.specs.Shown.{shown};
 ghost use Rattle.reader.specs.Steps.{PlaceFor, TakesUp, ReadsAs};
 
-use named::Lone;
 use refusals::{Fault, Refusal};
 use table::Table;
 
@@ -125,8 +124,8 @@ fn read_message(message: &[u8]) -> Result<Table, Fault>
     table.timers = timers;
     table.channelcount = configuration.channelcount;
     match named::lone_number(message, table) {
-        Lone::Answered => Ok(table),
-        Lone::At(offset) => Err(Fault {
+        None => Ok(table),
+        Some(offset) => Err(Fault {
             refusal: Refusal::Unanswered,
             offset,
         }),

@@ -1,6 +1,6 @@
 -- Laws of the tests of a table (specs/Producible.antt).
 --
---   answers_all, answers_not    test 15 says Answered, or a place: the search finds nothing, or a number
+--   answers                     test 15 gives no place where the search finds nothing
 --   producible_not, producible_as   the test of a table, by what its lists come to: false, or what test 15 says
 -- Trusts: nothing.
 use Prim.Native.Nat.{ℕ}
@@ -16,29 +16,26 @@ use Rattle.table.specs.declared.Table.{Table}
 use Rattle.element_tests.specs.Tests.{no_channel}
 use Rattle.listed.specs.Listed.{is_distinct}
 use Rattle.listed.proofs.Laws.{front-all, back_all}
-use Rattle.named.specs.Named.{unanswered, placed, lone_number}
+use Rattle.named.specs.Named.{Found, Nothing, Number, Lone, Answered, At, unanswered, placed, lone_number}
+use Rattle.std.proofs.Common.{Option, Some, None}
+use Rattle.std.specs.Option.{is_some}
 use Rattle.named.specs.Sought.{sought}
-use Rattle.named.specs.declared.Found.{Found}
-use Rattle.named.specs.declared.Found.TheVariants.{Nothing, Number}
-use Rattle.named.specs.declared.Lone.{Lone}
-use Rattle.named.specs.declared.Lone.TheVariants.{Answered, At}
 use Rattle.named.proofs.Laws.{lone_number-answered}
-use Rattle.named.proofs.Sought.{sought_only}
 use Rattle.writing_entries.specs.Entries.{all_of, list_fits, is_zero, sound_rule, unused_rule, sound_classifier, unused_classifier}
 use Rattle.writing_lists.specs.Lists.{rules_fit, classifiers_fit}
 use Rattle.writing_check.specs.Producible.{is_nothing, producible}
 
-module _ (msg : List ℕ) (t : Table) {l : Lone} (e : sought l ≡ sought (lone_number msg t)) where
-  pub answers_all : l ≡ Answered → true ≡ is_nothing (unanswered t)
-  answers_all f = ap is_nothing (sym (lone_number-answered msg t (sym (sought_only l (lone_number msg t) e) ∙ f)))
-
-  pub answers_not : {at : ℕ} → l ≡ At at → false ≡ is_nothing (unanswered t)
-  unfolding lone_number
-  answers_not f = on (unanswered t) (sym (sought_only l (lone_number msg t) e) ∙ f)
-    where
-      on : {at : ℕ} (f : Found) → placed msg f ≡ At at → false ≡ is_nothing f
-      on Nothing g = absurd (let z : ◌≡◌ {A = ℕ} 0 1 = cc in omega arith)
-      on (Number i j) g = refl
+pub answers : (msg : List ℕ) (t : Table) (o : Option ℕ) → sought o ≡ lone_number msg t → {b : Bool} → is_some o ≡ not b → b ≡ is_nothing (unanswered t)
+unfolding lone_number sought
+answers msg t o e {b} f = on o (unanswered t) b e f
+  where
+    on : (o : Option ℕ) (u : Found) (b : Bool) → sought o ≡ placed msg u → is_some o ≡ not b → b ≡ is_nothing u
+    on None Nothing true e f = refl
+    on None Nothing false e f = cc
+    on (Some at) Nothing b e f = cc
+    on None (Number i j) b e f = cc
+    on (Some at) (Number i j) true e f = cc
+    on (Some at) (Number i j) false e f = refl
 
 swap : (a b c : Bool) → a && (b && c) ≡ b && (a && c)
 swap true b c = refl

@@ -11,9 +11,7 @@ use Rattle.table.specs.Table.{rules_of, classifiers_of, channels_of}
 use Rattle.table.specs.declared.Table.{Table}
 use Rattle.element_tests.specs.Tests.{no_channel}
 use Rattle.listed.specs.Listed.{is_distinct}
-use Rattle.named.specs.Named.{classifier_numbers, unanswered}
-use Rattle.named.specs.declared.Found.{Found}
-use Rattle.named.specs.declared.Found.TheVariants.{Nothing, Number}
+use Rattle.named.specs.Named.{Found, Nothing, Number, classifier_numbers, unanswered}
 use Rattle.reader.specs.Take.{rule_numbers}
 use Rattle.writing_entries.specs.Entries.{all_of, is_zero, sound_rule, unused_rule, sound_classifier, unused_classifier}
 

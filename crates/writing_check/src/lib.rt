@@ -9,7 +9,6 @@ ghost use Rattle.element_tests.specs.Tests.{no_channel};
 ghost use Rattle.writing_entries.specs.Entries.{list_fits, is_zero};
 ghost use Rattle.writing_check.specs.Producible.{producible};
 
-use named::Lone;
 use table::Table;
 
 // Whether the first `count` channels could have been read, and the places behind them are 0.
@@ -44,8 +43,5 @@ pub fn is_producible(table: Table) -> bool
     if !fit {
         return false;
     }
-    match named::lone_number(b"", table) {
-        Lone::Answered => true,
-        Lone::At(_) => false,
-    }
+    named::lone_number(b"", table).is_none()
 }

@@ -29,9 +29,7 @@ use Rattle.rules.specs.Rules.{rule_at}
 use Rattle.classifiers.specs.Classifiers.{classifier_at}
 use Rattle.configurations.specs.Configurations.{configuration_at}
 use Rattle.configurations.specs.declared.Configuration.{Configuration}
-use Rattle.named.specs.Named.{unanswered, placed, lone_number}
-use Rattle.named.specs.declared.Found.{Found}
-use Rattle.named.specs.declared.Found.TheVariants.{Nothing, Number}
+use Rattle.named.specs.Named.{Found, Nothing, Number, unanswered, placed, lone_number}
 use Rattle.reader.specs.Take.{with_rule, with_classifier, with_configuration, with_element, is_taken}
 use Rattle.reader.specs.Read.{refusal, read_lone, read_row, read_table}
 use Rattle.reader.specs.Read.{Accepted, Refused}

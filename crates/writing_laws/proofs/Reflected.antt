@@ -11,9 +11,7 @@ use Rattle.table.specs.Table.{limited_to, rules_of, classifiers_of, channels_of,
 use Rattle.table.specs.declared.Table.{Table}
 use Rattle.table.proofs.Laws.{length-rules_of_le, length-classifiers_of_le, length-channels_of_le}
 use Rattle.element_tests.specs.Tests.{no_channel}
-use Rattle.named.specs.Named.{unanswered}
-use Rattle.named.specs.declared.Found.{Found}
-use Rattle.named.specs.declared.Found.TheVariants.{Nothing, Number}
+use Rattle.named.specs.Named.{Found, Nothing, Number, unanswered}
 use Rattle.writing_entries.specs.Entries.{is_zero, sound_rule, unused_rule, sound_classifier, unused_classifier}
 use Rattle.writing_check.specs.Producible.{is_nothing, producible}
 use Rattle.writing_laws.specs.Claims.{Producible}

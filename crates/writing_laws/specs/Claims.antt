@@ -15,8 +15,7 @@ use Rattle.table.specs.declared.Classifier.{Classifier}
 use Rattle.table.specs.declared.Table.{Table}
 use Rattle.element_tests.specs.Tests.{no_channel}
 use Rattle.listed.specs.Listed.{is_distinct}
-use Rattle.named.specs.Named.{classifier_numbers, unanswered}
-use Rattle.named.specs.declared.Found.TheVariants.{Nothing}
+use Rattle.named.specs.Named.{Nothing, classifier_numbers, unanswered}
 use Rattle.reader.specs.Take.{rule_numbers}
 
 pub data All {A : Type 0} (P : A → Type 0) : List A → Type 0 where

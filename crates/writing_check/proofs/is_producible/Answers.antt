@@ -4,7 +4,7 @@ use borrow.Author.Rules.{rules}
 use mathlib.Core.Path.{ap}
 use mathlib.Core.Bool.{not}
 use Rattle.table.proofs.Laws.{length_mapped}
-use Rattle.writing_check.proofs.Laws.{answers_all, answers_not, producible_not, producible_as}
+use Rattle.writing_check.proofs.Laws.{answers, producible_not, producible_as}
 use Rattle.writing_check.proofs.is_producible.Goals as goal
 
 -- a list or a timer fails
@@ -13,12 +13,7 @@ returns-then-not-fit c =
     producible_not c.args.table (search (rules, length_mapped)) (search (rules, length_mapped)) (search (rules, length_mapped)) c.channels_fit.ensures c.classifiers_fit.ensures
     c.rules_fit.ensures (ap not c.if-not-fit.true)
 
-pub returns-in-Answered : goal.returns-in-Answered
-returns-in-Answered c =
+pub returns : goal.returns
+returns c =
     producible_as c.args.table (search (rules, length_mapped)) (search (rules, length_mapped)) (search (rules, length_mapped)) c.channels_fit.ensures c.classifiers_fit.ensures
-    c.rules_fit.ensures (ap not c.if-not-fit.false) (answers_all _ _ c.lone_number.ensures c.in-Answered.is)
-
-pub returns-in-At : goal.returns-in-At
-returns-in-At c =
-    producible_as c.args.table (search (rules, length_mapped)) (search (rules, length_mapped)) (search (rules, length_mapped)) c.channels_fit.ensures c.classifiers_fit.ensures
-    c.rules_fit.ensures (ap not c.if-not-fit.false) (answers_not _ _ c.lone_number.ensures c.in-At.is)
+    c.rules_fit.ensures (ap not c.if-not-fit.false) (answers _ _ _ c.lone_number.ensures c.is_none.ensures)
