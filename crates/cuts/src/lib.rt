@@ -17,6 +17,7 @@ fn pass_elements(message: &[u8], from: usize, cut: usize) -> usize
 {
     let stop = cut + 1;
     let mut place = from + 1;
+    // Kept: no count, and its form was measured (docs/DECISIONS.md, D-073).
     loop {
         let next = place + 2;
         if stop < next {

@@ -16,6 +16,7 @@ fn read_input<R: Read>(from: &mut R, buffer: &mut [u8]) -> io::Result<usize>
     ensures { IfOk result (λ n. n ≤ length buffer.new) }
 {
     let mut n = 0;
+    // Kept: no count of turns, since a read says how many bytes came.
     while n < buffer.len() {
         let more = from.read(&mut buffer[n..])?;
         if more == 0 {

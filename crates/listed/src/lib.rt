@@ -16,12 +16,10 @@ pub fn is_listed(list: &[u16; 32], count: u8, number: u16) -> bool
 {
     let end = limited(count, 32);
     let mut listed = false;
-    let mut i = 0;
-    while i < end {
+    for i in 0..end {
         if list[i] == number {
             listed = true;
         }
-        i += 1;
     }
     listed
 }
@@ -30,16 +28,6 @@ pub fn is_listed(list: &[u16; 32], count: u8, number: u16) -> bool
 pub fn names_number(rule: Rule, number: u16) -> bool
     ensures { result ≡ names_number rule number }
 {
-    let n = limited(rule.numbercount, 8);
-    let mut j: usize = 0;
-    while j < 8 {
-        if n <= j {
-            return false;
-        }
-        if number == rule.numbers[j] {
-            return true;
-        }
-        j += 1;
-    }
-    false
+    let count = limited(rule.numbercount, 8);
+    rule.numbers[..count].contains(&number)
 }

@@ -69,6 +69,7 @@ fn take_up(message: &[u8]) -> Result<Taken, Fault>
     let mut configured = message.len();
     let mut here = 0;
     let mut tally = rows::empty_tally();
+    // Kept: no count, since `test_element` answers where the next element stands.
     while here < message.len() {
         let next = rows::test_element(message, here, tally)?;
         match message[here] {

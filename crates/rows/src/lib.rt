@@ -98,6 +98,7 @@ fn row_from(message: &[u8], parent: usize, own: usize, from: usize, end: usize) 
 {
     let mut at = from;
     let mut counts = [0u8; 8];
+    // Kept: a walk of its own and no `Children`, which only ends where a head is refused: this one answers the refusal.
     loop {
         match elements::read_head(message, at, end) {
             Ok(None) => {

@@ -78,7 +78,7 @@ pub fn put_configuration(table: Table, out: &mut [u8], at: usize) -> usize
     if next == at + 2 {
         return at;
     }
-    // Kept: (d) not `put_element`: that stores a head ahead of a value of any length, and a configuration without a child has none.
+    // Kept: `put_element` stores a head ahead of a value of any length, and a configuration without a child has no head.
     out[at] = 51;
     out[at + 1] = (next - at - 2) as u8;
     next

@@ -4,7 +4,7 @@
 // written and the answer is the place that was given; else just the element is written, and the answer is the place behind it.
 // `put_element` does the same of an element whose value is written by a function that is passed in. `put_each` writes an element for each
 // entry of a list by such a function, and asks that there is room for all.
-// Kept: (a) a buffer and a place are passed, and the place behind is answered: the equations `put` and `put_within` of the public writers are of these.
+// Kept: a buffer and a place are passed, and the place behind is answered: the equations `put` and `put_within` of the public writers are of these.
 #![tactic(auto)]
 
 ghost use Rattle.std.specs.Prelude.{◌≡◌, ℕ, ◌+◌, ◌*◌, ◌<◌, ◌≤◌, List, length, leb};

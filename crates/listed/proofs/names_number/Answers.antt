@@ -1,34 +1,12 @@
--- `listed::names_number` gives `names_number`. The invariant: the numbers from `j` on have the number where all have it.
+-- `listed::names_number` gives `names_number`: the library's search of the numbers that are used.
 -- Trusts: nothing.
-use borrow.Author.Rules.{rules}
-use borrow.Author.Tests.{eq-eqb, ne_eqb}
-use Prim.Native.Nat.{◌≤◌, ◌-◌}
-use mathlib.Core.Path.{◌≡◌, sym, ◌∙◌}
-use native.Mathlib.Nat.{sub-zero}
-use native.Mathlib.Omega.{arith}
+use mathlib.Core.Path.{◌∙◌}
 use lib.Dec.{eqb}
-use lib.ListN.{length, take, drop}
-use Rattle.table.proofs.Laws.{limited_to_le, length_mapped}
 use Rattle.table.specs.Table.{numbers_of}
-use Rattle.order.specs.Best.{any_of}
 use Rattle.listed.specs.Listed.{names_number}
-use Rattle.order.proofs.Search.{any_of_found, any_of_passed, any_of_end}
+use Rattle.order.proofs.Search.{any_of_listed, eqb_turned}
 use Rattle.listed.proofs.names_number.Goals as goal
 
-pub loop-j-init : goal.loop-j-init
-unfolding names_number numbers_of
-loop-j-init c =
-    (search rules, rw c.limited-n.ensures (limited_to_le 8 c.args.rule.numbercount), search (rules, length_mapped), rw (sub-zero, c.limited-n.ensures))
-
-pub returns-then-n-j : goal.returns-then-n-j
-returns-then-n-j c = sym (any_of_end _ _ _ _ c.if-n-j.true) ∙ c.loop-j.invariant.3
-
-pub returns-then-number-rule : goal.returns-then-number-rule
-returns-then-number-rule c = sym (any_of_found _ _ _ _ _ c.if-n-j.false (omega arith) (eq-eqb _ _ c.if-number-rule.true)) ∙ c.loop-j.invariant.3
-
-pub loop-j-preserved : goal.loop-j-preserved
-loop-j-preserved c = let inv = c.loop-j.invariant in
-    (search rules, inv.1, inv.2, sym (any_of_passed _ _ _ _ _ c.if-n-j.false (omega arith) (ne_eqb _ _ c.if-number-rule.false)) ∙ inv.3)
-
 pub returns : goal.returns
-returns c = sym (any_of_end _ _ c.limited-n.result c.loop-j.j (omega arith)) ∙ c.loop-j.invariant.3
+unfolding names_number numbers_of
+returns c = rw (← c.limited-count.ensures) (c.contains.ensures.value ∙ any_of_listed _ (eqb c.args.number) _ (λ x. eqb_turned x c.args.number))
