@@ -11,6 +11,7 @@ ghost use Rattle.clients.specs.Clients.{no_clients, is_client, client_at, client
 use table::Client;
 
 // The client IDs of one rule. Places from the count on hold 0.
+// Kept: an array with its count beside, since there is no heap and the record Rule takes them in just that form.
 #[derive(Clone, Copy)]
 pub struct Clients {
     pub count: u8,

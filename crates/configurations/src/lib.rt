@@ -12,6 +12,7 @@ ghost use Rattle.configurations.specs.Configurations.{empty_configuration, with_
 use table::TimerValues;
 
 // The channels and the timer values. Places from the count on hold 0.
+// Kept: an array with its count beside, since there is no heap and the record Table takes them in just that form.
 #[derive(Clone, Copy)]
 pub struct Configuration {
     pub channelcount: u8,

@@ -72,6 +72,7 @@ fn lacks_between(from: usize, after: usize, counts: &[u8; 8]) -> bool
 pub fn lacks_must(parent: usize, counts: &[u8; 8]) -> bool
     ensures { result ≡ lacks_must parent counts.now }
 {
+    // Kept: rows by their places, for the reason that stands at the rows of the crate types.
     match parent {
         26 => lacks_between(0, 3, counts),
         0 => lacks_between(3, 6, counts),

@@ -38,6 +38,7 @@ fn put_waiting(slots: u8, w: &mut Writer<'_>)
 }
 
 // The listing of a refusal: its number and offset.
+// Kept: a number and no Refusal, since the promise is of every number (`refusal_text`).
 pub fn list_refusal(number: u8, offset: usize, out: &mut [u8]) -> Result<usize, Refusal>
     ensures { record { answer = written result; out = out.new } ≡ listing (refusal_text number offset) out.old }
 {

@@ -33,6 +33,7 @@ pub const RULE_CLASSIFIERS: usize = 8;
 pub const RULE_UCIDS: usize = 16;
 
 // A client ID: its kind, and its value as a number (a MAC as its six bytes, big-endian).
+// Kept: kinds, marks and counts are numbers in this record and in the four below, since C lends them as they stand (include/dsg.h), and any value of any byte is taken.
 #[repr(C)]
 #[derive(Clone, Copy, PartialEq, Eq)]
 pub struct Client {

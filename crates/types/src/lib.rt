@@ -60,6 +60,7 @@ struct TypeLine {
 }
 
 // The rows: the places of the five types whose value is a row.
+// Kept: a row is a number, since `find_type` and `lacks_must` take any number, and answer of one that names no row, too.
 const CLASSIFIER: usize = 0;
 
 const IP_PART: usize = 5;

@@ -19,6 +19,7 @@ use writing_rules::put_rule;
 const PIECE_BYTES: usize = 1497;
 
 // The pieces so far: how many are closed, the bytes of the one that is being filled, the lengths of the closed ones.
+// Kept: an array with its count beside, since there is no heap.
 #[derive(Clone, Copy)]
 pub struct Cut {
     pub closed: u8,

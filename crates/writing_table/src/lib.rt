@@ -19,6 +19,7 @@ const STEP_BYTES: usize = 1500;
 const HEAD_BYTES: u16 = 3;
 
 // What was written: how many bodies there are, and their lengths, 0 behind the last.
+// Kept: an array with its count beside, since there is no heap and C is answered just these.
 #[derive(Clone, Copy)]
 pub struct Written {
     pub number: u8,
