@@ -34,7 +34,7 @@ use Rattle.classifiers.proofs.classifier_at.Reads as classifier_at_contract
 use Rattle.configurations.proofs.configuration_at.Reads as configuration_at_contract
 use Rattle.listed.proofs.is_listed.Reads as is_listed_contract
 use Rattle.listed.proofs.names_number.Reads as names_number_contract
-use Rattle.named.proofs.Sought.{sought_only}
+use Rattle.named.proofs.Sought.{in_words_only, sought_only}
 use Rattle.named.proofs.lone_number.Reads as lone_number_contract
 
 -- ---- numbers
@@ -142,4 +142,4 @@ names_number_one κs = only (parts.names_number_gives κs)
 -- ---- named
 
 pub lone_number_one : (κs : Lfts 1) → One answer (lone_number_contract.Post κs)
-lone_number_one κs a x y s t h g = sought_only x y (h ∙ sym g)
+lone_number_one κs a x y s t h g = sought_only x y (in_words_only _ _ (h ∙ sym g))

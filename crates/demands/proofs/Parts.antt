@@ -54,10 +54,10 @@ use Rattle.rules.proofs.rule_at.Reads as rule_at_contract
 use Rattle.classifiers.proofs.classifier_at.Reads as classifier_at_contract
 use Rattle.configurations.proofs.configuration_at.Reads as configuration_at_contract
 use Rattle.listed.specs.Listed.{is_among, names_number}
-use Rattle.named.specs.Named.{Lone, lone_number}
+use Rattle.named.specs.Named.{lone_number}
 use Rattle.listed.proofs.is_listed.Reads as is_listed_contract
 use Rattle.listed.proofs.names_number.Reads as names_number_contract
-use Rattle.named.specs.Sought.{sought}
+use Rattle.named.specs.Sought.{Sought, in_words, sought}
 use Rattle.named.proofs.lone_number.Reads as lone_number_contract
 
 -- ---- numbers
@@ -164,5 +164,5 @@ names_number_gives κs a x s h = h
 
 -- ---- named
 
-pub lone_number_gives : (κs : Lfts 1) → Gives {L = Lone} (λ x s. sought x) (lone_number_contract.Post κs) (λ a. lone_number a.0.now a.1.0)
+pub lone_number_gives : (κs : Lfts 1) → Gives {L = Sought} (λ x s. in_words (sought x)) (lone_number_contract.Post κs) (λ a. in_words (lone_number a.0.now a.1.0))
 lone_number_gives κs a x s h = h

@@ -1,5 +1,6 @@
 -- The words of test 15 tell the answers apart (specs/Sought.antt).
 --
+--   in_words_only  two cases that are told alike are the same
 --   sought_only    two answers that are told alike are the same
 --   found_nothing, found_number     what the search found
 --   sought_none, sought_some        what test 15 says
@@ -7,7 +8,19 @@
 use mathlib.Core.Path.{◌≡◌, refl, sym, ap, ◌∙◌}
 use Rattle.std.proofs.Common.{ℕ, Option, Some, None}
 use Rattle.named.specs.Named.{Found, Nothing, Number, Lone, Answered, At}
-use Rattle.named.specs.Sought.{found, sought}
+use Rattle.named.specs.Sought.{found, sought, Sought, answered, refused, in_words}
+
+lone_as : Sought → Lone
+lone_as answered = Answered
+lone_as (refused n offset) = At offset
+
+lone_as_back : (l : Lone) → lone_as (in_words l) ≡ l
+unfolding in_words lone_as
+lone_as_back Answered = refl
+lone_as_back (At offset) = refl
+
+pub in_words_only : (l k : Lone) → in_words l ≡ in_words k → l ≡ k
+in_words_only l k e = sym (lone_as_back l) ∙ ap lone_as e ∙ lone_as_back k
 
 answer_as : Lone → Option ℕ
 answer_as Answered = None

@@ -8,7 +8,7 @@ ghost use Rattle.std.specs.Prelude.{◌≡◌, ◌≤◌, length, get_or};
 ghost use Rattle.children.specs.Children.{left, places_in};
 ghost use Rattle.table.specs.Table.{limited_to};
 ghost use Rattle.named.specs.Named.{unanswered, named_place, lone_number};
-ghost use Rattle.named.specs.Sought.{found, sought};
+ghost use Rattle.named.specs.Sought.{found, in_words, sought};
 
 use children::Children;
 use table::{Rule, Table};
@@ -72,7 +72,7 @@ fn first_unanswered(table: Table) -> Option<(usize, usize)>
 
 // Test 15 of the table that a message's elements leave: where the first 50.6 stands whose number no classifier carries.
 pub fn lone_number(message: &[u8], table: Table) -> Option<usize>
-    ensures { sought result ≡ lone_number message.now table }
+    ensures { in_words (sought result) ≡ in_words (lone_number message.now table) }
 {
     let (i, j) = first_unanswered(table)?;
     Some(named_place(message, i, j))

@@ -5,7 +5,7 @@ use borrow.Author.Tests.{lt-ltb}
 use Rattle.std.proofs.lemmas.Result.{err_from_is_err_and}
 use Rattle.refusals.specs.Refusals.{number_of}
 use Rattle.refusals.specs.declared.Refusal.TheVariants.{Unanswered}
-use Rattle.named.proofs.Sought.{sought_none, sought_some}
+use Rattle.named.proofs.Sought.{in_words_only, sought_none, sought_some}
 use Rattle.reader.specs.Read.{read_table}
 use Rattle.reader.proofs.LawsSteps.{reads-refused, reads-answered, reads-lone}
 use Rattle.reader.proofs.read_message.Goals as goal
@@ -21,10 +21,10 @@ returns-in_err-taken c =
 
 pub returns-in-None : goal.returns-in-None
 returns-in-None c =
-    reads-answered _ c.if-message-gt-MESSAGE_BYTES.false c.in_ok-taken.taken c.in_ok-taken.ensures c.configuration_at-configuration.ensures c.lone_number.ensures (sought_none c.in-None.is)
+    reads-answered _ c.if-message-gt-MESSAGE_BYTES.false c.in_ok-taken.taken c.in_ok-taken.ensures c.configuration_at-configuration.ensures (in_words_only _ _ c.lone_number.ensures) (sought_none c.in-None.is)
 
 pub returns-in-Some : goal.returns-in-Some
 unfolding number_of
 returns-in-Some c =
-    reads-lone _ c.if-message-gt-MESSAGE_BYTES.false c.in_ok-taken.taken c.in_ok-taken.ensures c.configuration_at-configuration.ensures c.lone_number.ensures
+    reads-lone _ c.if-message-gt-MESSAGE_BYTES.false c.in_ok-taken.taken c.in_ok-taken.ensures c.configuration_at-configuration.ensures (in_words_only _ _ c.lone_number.ensures)
     (record { refusal = Unanswered; offset = c.in-Some.offset }) refl (sought_some c.in-Some.is)
