@@ -41,7 +41,7 @@ every_place = refl
 pub suited : (s r u p : ℕ) → s ≤ 7 → r ≤ 1 → u ≤ 1 → p ≤ 1 → Suited s r u p
 suited s r u p hs hr hu hp =
     let e : bit_is_0 (s * 8 + r * 4 + u * 2 + p) ≡ unsuited_at (s * 8 + r * 4 + u * 2 + p) =
-        agree_below_at bit_is_0 unsuited_at 64 (s * 8 + r * 4 + u * 2 + p) every_place (omega arith) in
+    agree_below_at bit_is_0 unsuited_at 64 (s * 8 + r * 4 + u * 2 + p) every_place (omega arith) in
     let a : (s * 8 + r * 4 + u * 2 + p) / 8 ≡ s = omega arith in
     let b : (s * 8 + r * 4 + u * 2 + p) / 4 % 2 ≡ r = omega arith in
     let c : (s * 8 + r * 4 + u * 2 + p) / 2 % 2 ≡ u = omega arith in
