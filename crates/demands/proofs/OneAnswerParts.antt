@@ -7,6 +7,7 @@ use mathlib.Core.Path.{sym, ◌∙◌}
 use contract.Lifetimes.{Lfts}
 use Rattle.demands.proofs.Contract.{One, only, answer}
 use Rattle.demands.proofs.Parts as parts
+use Rattle.refusals.proofs.Refusal.number.Reads as refusal_number_contract
 use Rattle.numbers.proofs.number1.Reads as number1_contract
 use Rattle.numbers.proofs.number2.Reads as number2_contract
 use Rattle.numbers.proofs.number4.Reads as number4_contract
@@ -38,6 +39,9 @@ use Rattle.named.proofs.Sought.{in_words_only, sought_only}
 use Rattle.named.proofs.lone_number.Reads as lone_number_contract
 
 -- ---- numbers
+
+pub refusal_number_one : (κs : Lfts 0) → One answer (refusal_number_contract.Post κs)
+refusal_number_one κs = only (parts.refusal_number_gives κs)
 
 pub number1_one : (κs : Lfts 1) → One answer (number1_contract.Post κs)
 number1_one κs = only (parts.number1_gives κs)

@@ -7,6 +7,8 @@
 -- Trusts: nothing.
 use contract.Lifetimes.{Lfts}
 use Rattle.demands.proofs.Contract.{Gives, answer}
+use Rattle.refusals.specs.Refusals.{number_of}
+use Rattle.refusals.proofs.Refusal.number.Reads as refusal_number_contract
 use Rattle.numbers.specs.Numbers.{number_at}
 use Rattle.wire.specs.Bytes.{pasted}
 use Rattle.compare.specs.Compare.{same_bytes}
@@ -61,6 +63,9 @@ use Rattle.named.specs.Sought.{Sought, in_words, sought}
 use Rattle.named.proofs.lone_number.Reads as lone_number_contract
 
 -- ---- numbers
+
+pub refusal_number_gives : (κs : Lfts 0) → Gives answer (refusal_number_contract.Post κs) (λ a. number_of a.0)
+refusal_number_gives κs a x s h = h
 
 pub number1_gives : (κs : Lfts 1) → Gives answer (number1_contract.Post κs) (λ a. number_at 1 a.0.now a.1.0)
 number1_gives κs a x s h = h

@@ -1,7 +1,9 @@
 -- Writers: what the public functions of writing give (the crates whose names begin with writing_, and element_tests::no_channel): each its definition, for every
 -- input; and that each contract admits one answer only, as OneAnswer says it.
 -- Trusts: nothing.
-use Prim.Native.Nat.{◌+◌}
+use Prim.Native.Nat.{ℕ, ◌+◌}
+use mathlib.Core.Path.{◌≡◌, ap, sym, ◌∙◌}
+use Rattle.std.specs.Prelude.{List, Result}
 use contract.Lifetimes.{Lfts}
 use lib.ListN.{take}
 use lib.Dec.{leb}
@@ -31,7 +33,10 @@ use Rattle.writing_entries.proofs.is_sound_classifier.Reads as is_sound_classifi
 use Rattle.writing_entries.proofs.is_unused_classifier.Reads as is_unused_classifier_contract
 use Rattle.writing_check.specs.Producible.{producible}
 use Rattle.writing_check.proofs.is_producible.Reads as is_producible_contract
+use Rattle.refusals.specs.declared.Refusal.{Refusal}
+use Rattle.writing_table.specs.declared.Written.{Written as Bodies}
 use Rattle.writing_table.specs.Writing.{Writing, as_written, writing}
+use Rattle.writing_table.proofs.Only.{as_written-only}
 use Rattle.writing_table.proofs.write_table.Reads as write_table_contract
 
 -- ---- the test of 19: the answer
@@ -132,5 +137,8 @@ lay_all_one κs = only (lay_all_gives κs)
 pub write_table_gives : (κs : Lfts 1) → Gives {L = Writing} (λ x s. record { answer = as_written x; out = s.1.1.0.now }) (write_table_contract.Post κs) (λ a. writing a.0 a.1.0 a.1.1.0.now)
 write_table_gives κs a x s h = h
 
-pub write_table_one : (κs : Lfts 1) → One {L = Writing} (λ x s. record { answer = as_written x; out = s.1.1.0.now }) (write_table_contract.Post κs)
-write_table_one κs = only (write_table_gives κs)
+pub write_table_one : (κs : Lfts 1) → One {L = Result Bodies Refusal × List ℕ} (λ x s. (x, s.1.1.0.now)) (write_table_contract.Post κs)
+write_table_one κs a x y s t h g =
+    let e = h ∙ sym g in
+    ap (λ (z : Result Bodies Refusal). (z, s.1.1.0.now)) (as_written-only x y (ap (λ (w : Writing). w.answer) e))
+    ∙ ap (λ (o : List ℕ). (y, o)) (ap (λ (w : Writing). w.out) e)
