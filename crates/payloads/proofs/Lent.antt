@@ -13,12 +13,12 @@ use lib.Dec.{ltb}
 use lib.ListN.{length, drop, length-drop}
 use lib.Seq.{take_all}
 use borrow.Author.Tests.{ltb-false, le-ltb}
-use Rattle.std.specs.declared.ops.Range.{Range}
+use Rattle.payloads.specs.declared.Range.{Range}
 use Rattle.payloads.specs.Judged.{Verdict, Refused, Other, Forward, Filtered}
 use Rattle.payloads.specs.Payload.{nowhere, payload_range, payload_of}
 
 -- a range in a frame of n bytes
-abbrev pub LiesIn : Range ℕ → ℕ → Type 0
+abbrev pub LiesIn : Range → ℕ → Type 0
 LiesIn r n = (r.start ≤ r.end) × (r.end ≤ n)
 
 pub payload_range_lies : (v : Verdict) (n : ℕ) → LiesIn (payload_range v n) n

@@ -9,24 +9,24 @@
 -- Trusts: nothing.
 use Rattle.std.specs.Prelude.{ℕ, ◌+◌, ◌-◌, cond, List, length, take, drop, ltb}
 use Rattle.wire.specs.Parts.{Part, part}
-use Rattle.std.specs.declared.ops.Range.{Range}
+use Rattle.payloads.specs.declared.Range.{Range}
 use Rattle.payloads.specs.Judged.{Verdict, Refused, Other, Forward, Filtered}
 
-abbrev pub nowhere : Range ℕ
+abbrev pub nowhere : Range
 nowhere = record { start = 0; end = 0 }
 
 -- what a verdict lends back of a frame of n bytes: `start` is the first of its bytes, `end` the first behind them
-unfoldable pub payload_range : Verdict → ℕ → Range ℕ
+unfoldable pub payload_range : Verdict → ℕ → Range
 payload_range (Refused k) n = nowhere
 payload_range Other n = nowhere
 payload_range (Forward k) n = cond (ltb n 14) nowhere (record { start = 14; end = n })
 payload_range Filtered n = nowhere
 
-abbrev pub bytes_over : Range ℕ → List ℕ → List ℕ
+abbrev pub bytes_over : Range → List ℕ → List ℕ
 bytes_over r frame = take (r.end - r.start) (drop r.start frame)
 
 -- the part over a range of a frame that stands at `at`
-abbrev pub part_over : Range ℕ → ℕ × ℕ → List ℕ → Part
+abbrev pub part_over : Range → ℕ × ℕ → List ℕ → Part
 part_over r at frame = part (at.0, r.start + at.1) (bytes_over r frame)
 
 abbrev pub payload_of : Verdict → List ℕ → List ℕ

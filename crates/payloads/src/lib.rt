@@ -10,7 +10,6 @@ ghost use Rattle.payloads.specs.Judged.{judged};
 ghost use Rattle.payloads.specs.Payload.{payload_range, part_over};
 
 use refusals::Refusal;
-use std::ops::Range;
 
 // The verdict on a frame.
 #[derive(Clone, Copy)]
@@ -26,14 +25,22 @@ pub enum Verdict {
     Filtered,
 }
 
+// A part of a frame: the bytes from `start` on, up to `end` and without it.
+// Kept: a struct of its own, since the library's Range is not Copy, and a caller may use the answer twice.
+#[derive(Clone, Copy)]
+pub struct Range {
+    pub start: usize,
+    pub end: usize,
+}
+
 // The range of the payload in a frame of n bytes: of a forwarded frame from 14 to its end, else empty.
 #[tactic(auto, unfolding(crate::specs::Judged::judged, crate::specs::Payload::payload_range))]
-pub fn payload_range(verdict: Verdict, n: usize) -> Range<usize>
+pub fn payload_range(verdict: Verdict, n: usize) -> Range
     ensures { result ≡ payload_range (judged verdict) n }
 {
     match verdict {
-        Verdict::Forward(_) if n >= 14 => 14..n,
-        _ => 0..0,
+        Verdict::Forward(_) if n >= 14 => Range { start: 14, end: n },
+        _ => Range { start: 0, end: 0 },
     }
 }
 
