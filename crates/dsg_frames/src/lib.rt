@@ -68,7 +68,7 @@ pub fn choose_value(table: Table, kind: u8, value: u64, known: u8, ucid: u8) -> 
 }
 
 // The numbers of a verdict on a frame of so many bytes.
-#[tactic(auto, using(payloads::proofs::Lent::payload_range_lies), unfolding(payloads::specs::Judged::judged, refusals::specs::Refusals::number_of))]
+#[tactic(auto, using(payloads::proofs::Lent::payload_range_lies), unfolding(payloads::specs::Judged::judged))]
 fn verdict_from(verdict: payloads::Verdict, length: usize) -> Verdict
     ensures { result ≡ verdict_as (judged verdict) length }
 {
@@ -79,8 +79,8 @@ fn verdict_from(verdict: payloads::Verdict, length: usize) -> Verdict
         length: 0,
     };
     match verdict {
-        payloads::Verdict::Refused(refusal) => Verdict {
-            number: u32::from(refusal.number()),
+        payloads::Verdict::Refused(number) => Verdict {
+            number: u32::from(number),
             ..nothing
         },
         payloads::Verdict::Other => Verdict { kind: 1, ..nothing },

@@ -3,20 +3,19 @@
 --   judged_only   two verdicts that are judged alike are the same
 -- Trusts: nothing.
 use mathlib.Core.Path.{◌≡◌, refl, sym, ap, ◌∙◌}
-use Rattle.refusals.proofs.Only.{refusal_from, refusal_from-back}
 use Rattle.payloads.specs.declared.Verdict as answers
 use Rattle.payloads.specs.declared.Verdict.TheVariants as answer
 use Rattle.payloads.specs.Judged.{Verdict, Refused, Other, Forward, Filtered, judged}
 
 verdict_as : Verdict → answers.Verdict
-verdict_as (Refused n) = answer.Refused (refusal_from n)
+verdict_as (Refused n) = answer.Refused n
 verdict_as Other = answer.Other
 verdict_as (Forward n) = answer.Forward n
 verdict_as Filtered = answer.Filtered
 
 verdict_as_back : (v : answers.Verdict) → verdict_as (judged v) ≡ v
 unfolding judged verdict_as
-verdict_as_back (answer.Refused r) = ap answer.Refused (refusal_from-back r)
+verdict_as_back (answer.Refused n) = refl
 verdict_as_back answer.Other = refl
 verdict_as_back (answer.Forward n) = refl
 verdict_as_back answer.Filtered = refl

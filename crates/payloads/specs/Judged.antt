@@ -6,7 +6,6 @@
 --
 -- Refusals of a frame carry the offset 0, so none is kept. Trusts: nothing.
 use Rattle.std.specs.Prelude.{ℕ}
-use Rattle.refusals.specs.Refusals.{number_of}
 use Rattle.payloads.specs.declared.Verdict as answers
 use Rattle.payloads.specs.declared.Verdict.TheVariants as answer
 
@@ -17,7 +16,7 @@ pub data Verdict : Type 0 where
   Filtered : Verdict
 
 unfoldable pub judged : answers.Verdict → Verdict
-judged (answer.Refused r) = Refused (number_of r)
+judged (answer.Refused n) = Refused n
 judged answer.Other = Other
 judged (answer.Forward n) = Forward n
 judged answer.Filtered = Filtered

@@ -9,13 +9,12 @@ ghost use Rattle.wire.specs.Parts.{part};
 ghost use Rattle.payloads.specs.Judged.{judged};
 ghost use Rattle.payloads.specs.Payload.{payload_range, part_over};
 
-use refusals::Refusal;
-
 // The verdict on a frame.
 #[derive(Clone, Copy)]
 pub enum Verdict {
-    // Refused: by the length of the frame, or since no rule fits.
-    Refused(Refusal),
+    // Kept: a number and no Refusal, since `payload_range` and `payload` promise of every number.
+    // Refused; the number of the refusal, 16 or 17.
+    Refused(u8),
     // A frame of another address.
     Other,
     // Kept: a number and no Option, since `prepared_verdict` and `verdict_of` answer Forward 0 also of a classifier of number 0.

@@ -56,10 +56,10 @@ pub fn judge_frame(table: Table, client: Client, ucid: Option<u8>, frame: &[u8])
     ensures { judged result ≡ verdict_of table client ucid frame.now }
 {
     if wrong_length(frame) {
-        return Verdict::Refused(Refusal::FrameLength);
+        return Verdict::Refused(Refusal::FrameLength.number());
     }
     match choose_rule(table, client, ucid) {
-        Err(refusal) => Verdict::Refused(refusal),
+        Err(refusal) => Verdict::Refused(refusal.number()),
         Ok(place) => judge_rule(&table, &rule_at(table, place), frame),
     }
 }

@@ -79,10 +79,10 @@ pub fn judge_lent(tunnel: &Tunnel, frame: &[u8]) -> Verdict
     ensures { judged result ≡ prepared_verdict tunnel.now frame.now }
 {
     if wrong_length(frame) {
-        return Verdict::Refused(Refusal::FrameLength);
+        return Verdict::Refused(Refusal::FrameLength.number());
     }
     if tunnel.mode == 0 {
-        return Verdict::Refused(Refusal::NoRule);
+        return Verdict::Refused(Refusal::NoRule.number());
     }
     if !has_address(frame, tunnel.address) {
         return Verdict::Other;
