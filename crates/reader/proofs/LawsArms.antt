@@ -18,7 +18,7 @@ use Rattle.rules.specs.Rules.{rule_at}
 use Rattle.classifiers.specs.Classifiers.{classifier_at}
 use Rattle.configurations.specs.Configurations.{configuration_at}
 use Rattle.rows.specs.Rows.{tested_at}
-use Rattle.rows.specs.Told.{went, went_of}
+use Rattle.rows.specs.Told.{tested_of}
 use Rattle.rows.specs.declared.Next.{Next}
 use Rattle.rows.specs.declared.Tally.{Tally}
 use Rattle.reader.specs.Take.{with_configuration}
@@ -31,7 +31,7 @@ use Rattle.reader.proofs.LawsTaking.{Taking}
 use Rattle.reader.proofs.LawsTurn.{taking_on, turn_taken}
 
 module _ {msg ids carried : List ℕ} {t : Table} {at : ℕ} {tally : Tally} (k : Taking msg ids carried t at tally) (inside : at < length msg)
-    (next : Next) (e : went (Ok next) ≡ went_of (tested_at msg at tally)) where
+    (next : Next) (e : tested_of at (Ok next) ≡ tested_at msg at tally) where
   module _ (kind : type_at msg at ≡ 50) {q : Rule} (read : q ≡ rule_at msg at) (m : List ℕ) where
     pub rule_taken : (f : Fault) → PlaceFor ids t.rulecount q.number at (Err f) m → TakesUp msg (Err f)
     rule_taken f p = turn_taken k inside next e (sym (is_taken_rule msg at t kind read k.kept.ruled) ∙ p.0) f p.1 p.2

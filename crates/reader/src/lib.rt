@@ -29,7 +29,7 @@ pub struct Reading {
 
 // What the top-level elements leave: where the configuration stands, or the end of the message; and the table without it.
 #[derive(Clone, Copy)]
-struct Taken {
+pub struct Taken {
     configured: usize,
     table: Table,
 }

@@ -1,20 +1,20 @@
 -- What a row or an element comes to is known by the answer (specs/Told.antt).
 --
---   fault_of-only, went_only        two answers that say the same are the same
+--   fault_of-only, tested_of-only   two answers that say the same are the same
 --   fault_fine, fault_bad           an answer that is fine says no refusal; one that is a refusal does
---   next_as, went_gives             the answer that says this
---   went_fine, went_bad             what stands after an element that is fine; the refusal of one that is not
+--   tested_fine, tested_bad         what stands after a top-level element that is fine; the refusal of one that is not
 -- Trusts: nothing.
 use mathlib.Core.Path.{◌≡◌, refl, sym, ap, ◌∙◌}
-use Rattle.std.proofs.Common.{ℕ, Bool, true, false, cond, eqb, Result, Ok, Err}
-use borrow.Author.Tests.{ne_eqb, eqb-true, eqb-false}
+use Rattle.std.proofs.Common.{ℕ, cond, eqb, Result, Ok, Err}
+use borrow.Author.Tests.{ne_eqb}
 use Rattle.refusals.specs.Refusals.{number_of}
 use Rattle.refusals.specs.declared.Fault.{Fault as Refused}
 use Rattle.refusals.proofs.Only.{refusal_from, refusal_from-back, number_of-some}
 use Rattle.rows.specs.Tests.{Fault}
 use Rattle.rows.specs.Rows.{Tested}
-use Rattle.rows.specs.Told.{fault_of, Went, on, refused, went, went_of}
+use Rattle.rows.specs.Told.{fault_of, tested_of}
 use Rattle.rows.specs.declared.Next.{Next}
+use Rattle.rows.specs.declared.Stopped.{Stopped}
 
 unfoldable pub row_as : Fault → Result (Unit {0}) Refused
 row_as f = cond (eqb f.bad 0) (Ok tt) (Err (record { refusal = refusal_from f.bad; offset = f.off }))
@@ -35,34 +35,26 @@ pub fault_bad : (own : ℕ) (r : Refused) {f : Fault} → fault_of own (Err r) �
 unfolding fault_of
 fault_bad own r e z = number_of-some r.refusal (ap (λ (f : Fault). f.bad) e ∙ z)
 
-unfoldable pub next_as : Went → Result Next Refused
-next_as (on place tally) = Ok (record { place = place; tally = tally })
-next_as (refused n offset) = Err (record { refusal = refusal_from n; offset = offset })
+unfoldable pub next_as : Tested → Result Next Stopped
+next_as t =
+    let next : Next = record { place = t.next; tally = t.tally } in
+    cond (eqb t.bad 0) (Ok next) (Err (record { fault = record { refusal = refusal_from t.bad; offset = t.off }; next = next }))
 
-next_as_back : (r : Result Next Refused) → next_as (went r) ≡ r
-unfolding went next_as
-next_as_back (Ok n) = refl
-next_as_back (Err f) = simp (refusal_from-back f.refusal)
+next_as_back : (at : ℕ) (r : Result Next Stopped) → next_as (tested_of at r) ≡ r
+unfolding tested_of next_as
+next_as_back at (Ok n) = refl
+next_as_back at (Err s) = simp (ne_eqb _ _ (number_of-some s.fault.refusal), refusal_from-back s.fault.refusal)
 
-pub went_only : (r q : Result Next Refused) → went r ≡ went q → r ≡ q
-went_only r q e = sym (next_as_back r) ∙ ap next_as e ∙ next_as_back q
+pub tested_of-only : (at : ℕ) (r q : Result Next Stopped) → tested_of at r ≡ tested_of at q → r ≡ q
+tested_of-only at r q e = sym (next_as_back at r) ∙ ap next_as e ∙ next_as_back at q
 
-pub went_gives : (r : Result Next Refused) {w : Went} → went r ≡ w → r ≡ next_as w
-went_gives r e = sym (next_as_back r) ∙ ap next_as e
+pub tested_fine : (at : ℕ) (n : Next) {t : Tested} → tested_of at (Ok n) ≡ t → (t.bad ≡ 0) × (n.place ≡ t.next) × (n.tally ≡ t.tally)
+unfolding tested_of
+tested_fine at n e = (sym (ap (λ (t : Tested). t.bad) e), ap (λ (t : Tested). t.next) e, ap (λ (t : Tested). t.tally) e)
 
-pub went_fine : (n : Next) (t : Tested) → went (Ok n) ≡ went_of t → (t.bad ≡ 0) × (n.place ≡ t.next) × (n.tally ≡ t.tally)
-unfolding went went_of
-went_fine n t = go (eqb t.bad 0) refl
-  where
-    go : (b : Bool) → eqb t.bad 0 ≡ b → on n.place n.tally ≡ cond b (on t.next t.tally) (refused t.bad t.off) → (t.bad ≡ 0) × (n.place ≡ t.next) × (n.tally ≡ t.tally)
-    go true z e = (eqb-true _ _ z, cc, cc)
-    go false z e = absurd (cc)
-
-pub went_bad : (f : Refused) (t : Tested) → went (Err f) ≡ went_of t → (t.bad ≡ 0 → ⊥) × (number_of f.refusal ≡ t.bad) × (f.offset ≡ t.off)
-unfolding went went_of
-went_bad f t = go (eqb t.bad 0) refl
-  where
-    go : (b : Bool) → eqb t.bad 0 ≡ b → refused (number_of f.refusal) f.offset ≡ cond b (on t.next t.tally) (refused t.bad t.off)
-        → (t.bad ≡ 0 → ⊥) × (number_of f.refusal ≡ t.bad) × (f.offset ≡ t.off)
-    go true z e = absurd (cc)
-    go false z e = (eqb-false _ _ z, cc, cc)
+pub tested_bad : (at : ℕ) (s : Stopped) {t : Tested} → tested_of at (Err s) ≡ t
+    → (t.bad ≡ 0 → ⊥) × (number_of s.fault.refusal ≡ t.bad) × (s.fault.offset ≡ t.off)
+unfolding tested_of
+tested_bad at s e =
+    let number = ap (λ (t : Tested). t.bad) e in
+    (λ z. number_of-some s.fault.refusal (number ∙ z), number, ap (λ (t : Tested). t.off) e)

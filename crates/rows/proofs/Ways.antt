@@ -1,6 +1,6 @@
 -- What the rule says on each way through the code of `element`, `row_from` and `test_element`: one law for each return and for the turn of the loop.
 -- Trusts: nothing.
-use mathlib.Core.Path.{◌≡◌, refl, sym, ap, ◌∙◌}
+use mathlib.Core.Path.{◌≡◌, sym, ◌∙◌}
 use mathlib.Core.Bool.{Bool, true, false}
 use mathlib.Core.List.{List}
 use Prim.Native.Nat.{ℕ, ◌+◌}
@@ -12,7 +12,7 @@ use Rattle.types.specs.declared.Known.{Known}
 use Rattle.element_tests.specs.Tests.{stepped, own_tests}
 use Rattle.rows.specs.Tests.{is_row, row_end, none_counted}
 use Rattle.rows.specs.Rows.{element_with, element_of, noted, row_step, row_of, tested_at}
-use Rattle.rows.specs.Told.{fault_of, fault_in, on, refused, went, went_of}
+use Rattle.rows.specs.Told.{fault_of, fault_in}
 use Rattle.rows.proofs.Told.{fault_bad}
 use Rattle.rows.proofs.Rule.{row-rule}
 use Rattle.refusals.specs.declared.Fault.{Fault as Refusing}
@@ -70,26 +70,16 @@ module _ (msg : List ℕ) (parent at len : ℕ) (t : List ℕ) where
         elem_row z = simp (← o.typed, ne_eqb _ _ o.listed, ← o.tests, eq-eqb _ _ b, ← i, y, ← x, eq-eqb _ _ z)
 
 module _ (msg : List ℕ) (at : ℕ) (t : Tally) {h : Head} (e : h ≡ head_at msg at (length msg)) where
-  pub top_ends : h ≡ End → on at t ≡ went_of (tested_at msg at t)
-  unfolding tested_at went_of
-  top_ends b = sym (simp (← e, b))
-
-  pub top_bad : {n : ℕ} → h ≡ Refused n → (n ≡ 0 → ⊥) → refused n at ≡ went_of (tested_at msg at t)
-  unfolding tested_at went_of
-  top_bad b z = sym (simp (← e, b, ne_eqb _ _ z))
-
-  pub top_goes : {len : ℕ} {s : Step} {u : Tally} → h ≡ Value len → s ≡ element_of msg 26 at len t.counts → u.counts ≡ noted t.counts s
-      → record { bad = s.bad; off = s.off; next = at + 2 + len; tally = u } ≡ tested_at msg at t
+  pub top_ends : h ≡ End → record { bad = 0; off = at; next = at; tally = t } ≡ tested_at msg at t
   unfolding tested_at
-  top_goes b x q = simp (← e, b, ← x, ← q)
+  top_ends b = simp (← e, b)
 
-  module _ {len : ℕ} {s : Step} (b : h ≡ Value len) (x : s ≡ element_of msg 26 at len t.counts) where
-    pub top_passed : {u : Tally} → s.bad ≡ 0 → u.counts ≡ noted t.counts s → on (at + 2 + len) u ≡ went_of (tested_at msg at t)
-    unfolding went_of
-    top_passed {u} z q = sym (simp (← top_goes {u = u} b x q, eq-eqb _ _ z))
+  pub top_bad : {n : ℕ} → h ≡ Refused n → record { bad = n; off = at; next = at; tally = t } ≡ tested_at msg at t
+  unfolding tested_at
+  top_bad b = simp (← e, b)
 
-    pub top_refused : (f : Refusing) → fault_of at (Err f) ≡ fault_in s → went (Err f) ≡ went_of (tested_at msg at t)
-    unfolding went went_of fault_of
-    top_refused f z =
-        ap (λ (g : Fault). refused g.bad g.off) z
-        ∙ sym (simp (← top_goes {u = record { counts = noted t.counts s }} b x refl, ne_eqb _ _ (fault_bad at f z)))
+  -- `f` is what the element comes to
+  pub top_goes : {len : ℕ} {s : Step} {u : Tally} {f : Fault} → h ≡ Value len → s ≡ element_of msg 26 at len t.counts → f ≡ fault_in s → u.counts ≡ noted t.counts s
+      → record { bad = f.bad; off = f.off; next = at + 2 + len; tally = u } ≡ tested_at msg at t
+  unfolding tested_at
+  top_goes b x z q = simp (z, ← e, b, ← x, ← q)

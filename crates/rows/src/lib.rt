@@ -12,7 +12,7 @@
 ghost use Rattle.std.specs.Prelude.{◌≡◌, ◌+◌, ◌≤◌, ◌<◌, length};
 ghost use Rattle.rows.specs.Tests.{is_row, row_end, none_counted, empty_tally};
 ghost use Rattle.rows.specs.Rows.{element_of, row_of, noted, tested_at};
-ghost use Rattle.rows.specs.Told.{fault_of, fault_in, went, went_of};
+ghost use Rattle.rows.specs.Told.{fault_of, fault_in, tested_of};
 
 use refusals::{Fault, Refusal};
 use types::Length;
@@ -28,6 +28,22 @@ pub struct Tally {
 pub struct Next {
     pub place: usize,
     pub tally: Tally,
+}
+
+// A top-level element that is refused, and what stands after it all the same: of a refused head the place is its own.
+#[derive(Clone, Copy)]
+pub struct Stopped {
+    pub fault: Fault,
+    pub next: Next,
+}
+
+impl From<Stopped> for Fault {
+    ghost from_gives = { λ stopped fault. fault ≡ stopped.fault };
+
+    // The refusal alone.
+    fn from(stopped: Stopped) -> Fault {
+        stopped.fault
+    }
 }
 
 // Whether the value is a row of elements.
@@ -118,24 +134,34 @@ fn row_from(message: &[u8], parent: usize, own: usize, from: usize, end: usize) 
     }
 }
 
-// The top-level element at `at`, after those that `tally` counts: the first refusal of 6 to 13 in it, or what stands
+// The top-level element at `at`, after those that `tally` counts: the first refusal of 6 to 13 in it, or none; and what stands
 // after it. Past the last element nothing is refused and nothing changes. An element that is not listed costs no call.
-pub fn test_element(message: &[u8], at: usize, tally: Tally) -> Result<Next, Fault>
-    ensures { went result ≡ went_of (tested_at message.now at tally) }
+pub fn test_element(message: &[u8], at: usize, tally: Tally) -> Result<Next, Stopped>
+    ensures { tested_of at result ≡ tested_at message.now at tally }
 {
     match elements::read_head(message, at, message.len()) {
         Ok(None) => Ok(Next { place: at, tally }),
-        Err(refusal) => Err(Fault {
-            refusal,
-            offset: at,
+        Err(refusal) => Err(Stopped {
+            fault: Fault {
+                refusal,
+                offset: at,
+            },
+            next: Next { place: at, tally },
         }),
         Ok(Some(len)) => {
+            let place = at + 2 + len;
             let mut after = tally;
             if types::find_type(types::TOP_LEVEL, message[at]).is_some() {
-                element(message, types::TOP_LEVEL, at, len, &mut after.counts)?;
+                if let Err(fault) = element(message, types::TOP_LEVEL, at, len, &mut after.counts) {
+                    let next = Next {
+                        place,
+                        tally: after,
+                    };
+                    return Err(Stopped { fault, next });
+                }
             }
             Ok(Next {
-                place: at + 2 + len,
+                place,
                 tally: after,
             })
         }

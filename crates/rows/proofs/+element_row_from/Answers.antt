@@ -1,6 +1,6 @@
 -- The cycle of calls {element, row_from}, whose measures and loop are in Invariants.antt. Each return is one law of Ways.
 -- Trusts: nothing.
-use Rattle.std.proofs.Common.{arith, length, refl, sym, ap, ◌∙◌, get_or}
+use Rattle.std.proofs.Common.{arith, length, refl, sym, ap, ◌∙◌}
 use Rattle.std.proofs.lemmas.List.{set-get_or}
 use Rattle.std.proofs.lemmas.Result.{err_from_is_err_and}
 use lib.ListN.{length-set}
@@ -15,7 +15,7 @@ use Rattle.element_tests.specs.Tests.{stepped}
 use Rattle.element_tests.specs.Stepped.{step_of}
 use Rattle.rows.specs.Rows.{noted}
 use Rattle.rows.specs.Told.{fault_of, fault_in}
-use Rattle.rows.proofs.Told.{fault_fine, fault_bad}
+use Rattle.rows.proofs.Told.{fault_fine}
 use Rattle.rows.proofs.Ways.{row_ends, row-bad, row-stops, row_goes, elem_unlisted, elem_own, elem_leaf, elem_inner, elem_row}
 use Rattle.rows.proofs.+element_row_from.Goals as goal
 use Rattle.rows.proofs.+element_row_from.Goals.{element-then-is_row+in_ok-row_from, element-else-is_row}

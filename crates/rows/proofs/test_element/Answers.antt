@@ -1,24 +1,19 @@
 -- `rows::test_element` gives `tested_at`: one return for each answer of the head; for a whole head one where the element is refused and
 -- one where it is not, be it listed or skipped.
 -- Trusts: nothing.
-use Rattle.std.proofs.Common.{rules, arith, ◌≡◌, ◌+◌, ◌≤◌, List, ℕ, length, refl, sym, ap, ◌∙◌, Option, None, Some, false}
-use Rattle.std.proofs.lemmas.Result.{err_from_is_err_and}
+use Rattle.std.proofs.Common.{rules, arith, ◌≡◌, ◌+◌, ◌≤◌, List, ℕ, length, refl, sym, ◌∙◌, Option, None, Some, false}
 use Rattle.std.specs.Option.{is_some}
 use lib.ListN.{set}
 use lib.Seq.{set_out}
-use Rattle.refusals.proofs.Only.{number_of-some}
 use Rattle.elements.specs.Elements.{Head, Value, head_at}
 use Rattle.elements.proofs.Laws.{head_at-fits}
 use Rattle.elements.proofs.Stood.{stood_value, stood_end, stood_refused}
 use Rattle.types.specs.Columns.{found, listed}
 use Rattle.types.specs.declared.Known.{Known}
 use Rattle.types.proofs.Columns.{found_unlisted}
-use Rattle.rows.specs.Told.{went}
-use Rattle.rows.proofs.Told.{fault_fine}
-use Rattle.rows.proofs.Ways.{elem_unlisted, top_ends, top_bad, top_passed, top_refused}
-use Rattle.rows.specs.declared.Tally.{Tally}
+use Rattle.rows.specs.Told.{fault_of, tested_of}
+use Rattle.rows.proofs.Ways.{elem_unlisted, top_ends, top_bad, top_goes}
 use Rattle.rows.proofs.test_element.Goals as goal
-use Rattle.rows.proofs.test_element.Goals.{then-is_some+in_ok-element-in-Ok-Some, else-is_some}
 
 -- the value that a whole head announces lies in the message
 fits : (msg : List ℕ) (at : ℕ) {h : Head} {len : ℕ} → h ≡ head_at msg at (length msg) → h ≡ Value len → at + 2 + len ≤ length msg
@@ -39,36 +34,37 @@ bounds-message-at c = omega (arith, fits _ _ c.read_head.ensures (stood_value c.
 pub element-requires : goal.element-requires
 element-requires c = fits _ _ c.read_head.ensures (stood_value c.in-Ok-Some.is c.in-Ok-Some.field-0-is)
 
-pub overflow_add-result : goal.overflow_add-result
-overflow_add-result c = omega (arith, fits _ _ c.read_head.ensures (stood_value c.in-Ok-Some.is c.in-Ok-Some.field-0-is))
+pub overflow_add-place : goal.overflow_add-place
+overflow_add-place c = omega (arith, fits _ _ c.read_head.ensures (stood_value c.in-Ok-Some.is c.in-Ok-Some.field-0-is))
 
-pub overflow_add-result-in-Ok-Some : goal.overflow_add-result-in-Ok-Some
-overflow_add-result-in-Ok-Some c = omega (arith, fits _ _ c.read_head.ensures (stood_value c.in-Ok-Some.is c.in-Ok-Some.field-0-is))
+pub overflow_add-place-in-Ok-Some : goal.overflow_add-place-in-Ok-Some
+overflow_add-place-in-Ok-Some c = omega (arith, fits _ _ c.read_head.ensures (stood_value c.in-Ok-Some.is c.in-Ok-Some.field-0-is))
 
 pub returns-in-Ok-None : goal.returns-in-Ok-None
-unfolding went
+unfolding tested_of
 returns-in-Ok-None c = top_ends _ _ _ c.read_head.ensures (stood_end c.in-Ok-None.is c.in-Ok-None.field-0-is)
 
 pub returns-in-Err : goal.returns-in-Err
-unfolding went
-returns-in-Err c = top_bad _ _ _ c.read_head.ensures (stood_refused c.in-Err.is) (number_of-some _)
+unfolding tested_of
+returns-in-Err c = top_bad _ _ _ c.read_head.ensures (stood_refused c.in-Err.is)
 
-pub returns-in_err-element-in-Ok-Some : goal.returns-in_err-element-in-Ok-Some
-returns-in_err-element-in-Ok-Some c =
-    let p = err_from_is_err_and c.from_residual.result c.from_residual.ensures.1 in
-    rw (p.1, p.2) (top_refused _ _ _ c.read_head.ensures (stood_value c.in-Ok-Some.is c.in-Ok-Some.field-0-is) refl _ c.in_err-element-in-Ok-Some.ensures.fault)
+-- the element is refused
+pub returns-in-Err-element : goal.returns-in-Err-element
+unfolding tested_of fault_of
+returns-in-Err-element c =
+    top_goes _ _ _ c.read_head.ensures (stood_value c.in-Ok-Some.is c.in-Ok-Some.field-0-is) refl c.in-Err-element.ensures.fault c.in-Err-element.ensures.counted
 
-pub returns-after-is_some : goal.returns-after-is_some
-unfolding went
-returns-after-is_some c =
-    elim c.if-is_some.branch [
-      | then-is_some+in_ok-element-in-Ok-Some w ↦
-          top_passed _ _ _ c.read_head.ensures (stood_value c.in-Ok-Some.is c.in-Ok-Some.field-0-is) refl
-          (fault_fine _ w.in_ok-element-in-Ok-Some.ensures.fault)
-          (ap (λ (t : Tally). t.counts) w.after-is ∙ w.in_ok-element-in-Ok-Some.ensures.counted)
-      | else-is_some w ↦
-          top_passed _ _ _ c.read_head.ensures (stood_value c.in-Ok-Some.is c.in-Ok-Some.field-0-is)
-          (elem_unlisted _ _ _ _ _ (found_unlisted _ (missed _ _ (sym c.is_some.ensures ∙ w.if-is_some.false) c.find_type.ensures)))
-          refl
-          (ap (λ (t : Tally). t.counts) w.after-is ∙ uncounted _ 8 0 (search rules) (omega arith))
-    ]
+-- it is fine
+pub returns-in_default : goal.returns-in_default
+unfolding tested_of fault_of
+returns-in_default c =
+    top_goes _ _ _ c.read_head.ensures (stood_value c.in-Ok-Some.is c.in-Ok-Some.field-0-is) refl c.in_default.ensures.fault c.in_default.ensures.counted
+
+-- it is skipped
+pub returns-else-is_some : goal.returns-else-is_some
+unfolding tested_of fault_of
+returns-else-is_some c =
+    top_goes _ _ _ c.read_head.ensures (stood_value c.in-Ok-Some.is c.in-Ok-Some.field-0-is)
+    (elem_unlisted _ _ _ _ _ (found_unlisted _ (missed _ _ (sym c.is_some.ensures ∙ c.if-is_some.false) c.find_type.ensures)))
+    refl
+    (uncounted _ 8 0 (search rules) (omega arith))
