@@ -47,13 +47,14 @@ fn named_count(rule: Rule) -> usize
 }
 
 // The first number that a rule names and that no classifier carries: rule i's number j. At a classifier that carries a number the
-// search goes on with the next number, and at the first number without one it is left.
+// search goes on with the next number, and at the first number without one it is left, each by its label.
 fn first_unanswered(table: Table) -> Option<(usize, usize)>
     ensures { found result ≡ unanswered table }
 {
+    let mut found = None;
     let rules = table::limited(table.rulecount, 32);
     let classifiers = table::limited(table.classifiercount, 32);
-    for i in 0..rules {
+    'search: for i in 0..rules {
         let rule = table.rules[i];
         let numbers = named_count(rule);
         'number: for j in 0..numbers {
@@ -64,10 +65,11 @@ fn first_unanswered(table: Table) -> Option<(usize, usize)>
                     continue 'number;
                 }
             }
-            return Some((i, j));
+            found = Some((i, j));
+            break 'search;
         }
     }
-    None
+    found
 }
 
 // Test 15 of the table that a message's elements leave: where the first 50.6 stands whose number no classifier carries.

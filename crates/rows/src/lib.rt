@@ -37,10 +37,10 @@ pub struct Stopped {
     pub next: Next,
 }
 
+// The refusal alone, which a caller's `?` takes.
 impl From<Stopped> for Fault {
     ghost from_gives = { λ stopped fault. fault ≡ stopped.fault };
 
-    // The refusal alone.
     fn from(stopped: Stopped) -> Fault {
         stopped.fault
     }
@@ -127,7 +127,9 @@ fn row_from(message: &[u8], parent: usize, own: usize, from: usize, end: usize) 
                 });
             }
             Ok(Some(len)) => {
-                element(message, parent, at, len, &mut counts)?;
+                if let Err(fault) = element(message, parent, at, len, &mut counts) {
+                    return Err(fault);
+                }
                 at = at + 2 + len;
             }
         }

@@ -117,11 +117,10 @@ row_from-element-requires t c =
     (omega (arith, fits, c.loop-counts.invariant.begun), fits.1)
 
 -- a child that is refused
-pub row_from-returns-in_err-element-in-Ok-Some : goal.row_from-returns-in_err-element-in-Ok-Some
-row_from-returns-in_err-element-in-Ok-Some t c =
-    let p = err_from_is_err_and c.from_residual.result c.from_residual.ensures.1 in
-    rw (p.1, p.2) (row-stops _ _ _ _ _ _ c.read_head.ensures (stood_value c.in-Ok-Some.is c.in-Ok-Some.field-0-is) refl _ c.in_err-element-in-Ok-Some.ensures.fault
-    ∙ c.loop-counts.invariant.rest)
+pub row_from-returns-in-Err-element : goal.row_from-returns-in-Err-element
+row_from-returns-in-Err-element t c =
+    row-stops _ _ _ _ _ _ c.read_head.ensures (stood_value c.in-Ok-Some.is c.in-Ok-Some.field-0-is) refl _ c.in-Err-element.ensures.fault
+    ∙ c.loop-counts.invariant.rest
 
 pub row_from-overflow_add-at : goal.row_from-overflow_add-at
 row_from-overflow_add-at t c =
@@ -141,9 +140,9 @@ row_from-loop-counts-smaller t c =
 pub row_from-loop-counts-preserved : goal.row_from-loop-counts-preserved
 row_from-loop-counts-preserved t c = record {
   begun = omega (arith, c.loop-counts.invariant.begun);
-  lists = ap length c.in_ok-element-in-Ok-Some.ensures.counted ∙ simp length-set c.loop-counts.invariant.lists;
+  lists = ap length c.in_default.ensures.counted ∙ simp length-set c.loop-counts.invariant.lists;
   rest = row_goes _ _ _ _ _ _ c.read_head.ensures (stood_value c.in-Ok-Some.is c.in-Ok-Some.field-0-is) refl
-      (fault_fine _ c.in_ok-element-in-Ok-Some.ensures.fault)
-      c.in_ok-element-in-Ok-Some.ensures.counted
+      (fault_fine _ c.in_default.ensures.fault)
+      c.in_default.ensures.counted
       ∙ c.loop-counts.invariant.rest;
 }
