@@ -44,7 +44,7 @@ fn list_report(report: Report, count: u8, table: Table, out: &mut [u8]) -> Resul
     ensures { record { answer = written result; out = out.new } ≡ listing (report_text (told report) count table) out.old }
 {
     match report {
-        Report::BodyRefused(refusal) => notices::list_refusal(refusal.number(), 0, out),
+        Report::BodyRefused(number) => notices::list_refusal(number, 0, out),
         Report::Repeat => notices::list_waiting(0, out),
         Report::Waiting(empty) => notices::list_waiting(empty, out),
         Report::Accepted => listing::list_table(count, table, out),

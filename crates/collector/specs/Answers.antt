@@ -12,7 +12,6 @@
 -- Tested by: the bench example in proofs/Bench.antt of collector_demands.
 -- Trusts: nothing.
 use Rattle.std.specs.Prelude.{ℕ, cond, List, [], take, drop, eqb}
-use Rattle.refusals.specs.Refusals.{number_of}
 use Rattle.collector.specs.declared.Answer.{Answer}
 use Rattle.collector.specs.declared.Answer.TheVariants.{Refused, Repeat, Waiting, Complete, Dropped}
 
@@ -24,7 +23,7 @@ pub data Said : Type 0 where
   dropped : ℕ → Said
 
 abbrev pub said : Answer → Said
-said (Refused r) = refused (number_of r)
+said (Refused n) = refused n
 said Repeat = again
 said (Waiting k) = waiting k
 said (Complete n) = complete n

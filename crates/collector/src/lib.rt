@@ -16,14 +16,14 @@ ghost use Rattle.collector.specs.Duties.{Parts, stored_step, held_after};
 ghost use Rattle.collector.specs.Step.{settled, finished, collect_step};
 
 use collection::Collection;
-use refusals::Refusal;
 use relation::Relation;
 
 // What a body is answered.
 #[derive(Clone, Copy)]
 pub enum Answer {
-    // Not taken: the first of tests 1 to 5 that it fails.
-    Refused(Refusal),
+    // Not taken: the number of the first test that it fails, 1 to 5.
+    // Kept: a number and no Refusal, since `find_message`, `own_part` and `joined_part` of messages promise of every number.
+    Refused(u8),
     // Its slot has these bytes already.
     Repeat,
     // Stored; so many slots are empty.
@@ -142,7 +142,7 @@ pub fn collect(held: Collection, slots: &mut [u8], join: &mut [u8], body: &[u8])
 {
     if let Err(refusal) = body_tests::refuse(slots.len(), join.len(), body) {
         return Outcome {
-            answer: Answer::Refused(refusal),
+            answer: Answer::Refused(refusal.number()),
             held,
         };
     }

@@ -14,8 +14,6 @@ use native.Mathlib.Omega.{arith}
 use borrow.Author.Tests.{eqb-true, ne_eqb}
 use lib.ListN.{length}
 use lib.Dec.{eqb}
-use Rattle.refusals.specs.declared.Refusal.{Refusal}
-use Rattle.refusals.proofs.Only.{refusal_from, refusal_from-back}
 use Rattle.cuts.specs.Cuts.{Ruling, all_good, bad_at}
 use Rattle.collector.specs.Answers.{Said, refused, again, waiting, complete, dropped, said}
 use Rattle.held.specs.Held.{well_made}
@@ -38,7 +36,7 @@ use Rattle.collector_demands.proofs.Demands.{demand_2_nothing}
 
 -- the answer that is said so
 answered : Said → Answer
-answered (refused n) = Refused (refusal_from n)
+answered (refused n) = Refused n
 answered again = Repeat
 answered (waiting k) = Waiting k
 answered (complete n) = Complete n
@@ -46,7 +44,7 @@ answered (dropped off) = Dropped off
 
 answered-said : (a : Answer) → answered (said a) ≡ a
 unfolding answered
-answered-said (Refused r) = ap (λ (q : Refusal). Refused q) (refusal_from-back r)
+answered-said (Refused n) = refl
 answered-said Repeat = refl
 answered-said (Waiting k) = refl
 answered-said (Complete n) = refl

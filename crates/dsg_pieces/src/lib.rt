@@ -99,8 +99,8 @@ fn collected_from(answer: Answer, number: u8) -> Collected
     ensures { result ≡ collected_of (said answer) number }
 {
     match answer {
-        Answer::Refused(refusal) => Collected {
-            number: refusal.number() as u32,
+        Answer::Refused(number) => Collected {
+            number: number as u32,
             ..NOTHING_COLLECTED
         },
         Answer::Repeat => Collected {
@@ -161,8 +161,8 @@ fn received_from(report: Report) -> Received
     ensures { result ≡ received_of (told report) }
 {
     match report {
-        Report::BodyRefused(refusal) => Received {
-            number: refusal.number() as u32,
+        Report::BodyRefused(number) => Received {
+            number: number as u32,
             ..NOTHING_RECEIVED
         },
         Report::Repeat => Received {

@@ -10,7 +10,7 @@ use Rattle.receiver.specs.declared.Report.TheVariants.{BodyRefused, Repeat, Wait
 use Rattle.receiver.specs.Receive.{Told, body_refused, again, waiting, accepted, message_refused, dropped, told}
 
 report_as : Told → Report
-report_as (body_refused n) = BodyRefused (refusal_from n)
+report_as (body_refused n) = BodyRefused n
 report_as again = Repeat
 report_as (waiting k) = Waiting k
 report_as accepted = Accepted
@@ -19,7 +19,7 @@ report_as (dropped cut) = Dropped cut
 
 report_as_back : (r : Report) → report_as (told r) ≡ r
 unfolding report_as
-report_as_back (BodyRefused r) = ap (λ (q : Refusal). BodyRefused q) (refusal_from-back r)
+report_as_back (BodyRefused n) = refl
 report_as_back Repeat = refl
 report_as_back (Waiting k) = refl
 report_as_back Accepted = refl

@@ -34,7 +34,7 @@ pub data Told : Type 0 where
   dropped : ℕ → Told
 
 abbrev pub told : Report → Told
-told (BodyRefused r) = body_refused (number_of r)
+told (BodyRefused n) = body_refused n
 told Repeat = again
 told (Waiting k) = waiting k
 told Accepted = accepted

@@ -15,14 +15,15 @@ use collection::Collection;
 use collector::{Answer, Outcome};
 use messages::Source;
 use reader::Reading;
-use refusals::{Fault, Refusal};
+use refusals::Fault;
 use table::Table;
 
 // What a body is answered.
 #[derive(Clone, Copy)]
 pub enum Report {
-    // The body is refused, by one of tests 1 to 5; all that is lent is as it was.
-    BodyRefused(Refusal),
+    // The body is refused, 1 to 5; all that is lent is as it was.
+    // Kept: a number and no Refusal, since the collector answers it as one (`collector::Answer::Refused`).
+    BodyRefused(u8),
     // Its slot has these bytes already; nothing changes.
     Repeat,
     // Stored; so many slots are empty.
@@ -84,7 +85,7 @@ fn take_up(outcome: Outcome, table: Table, body: &[u8], join: &[u8]) -> Received
 {
     let held = outcome.held;
     let report = match outcome.answer {
-        Answer::Refused(refusal) => Report::BodyRefused(refusal),
+        Answer::Refused(number) => Report::BodyRefused(number),
         Answer::Repeat => Report::Repeat,
         Answer::Waiting(empty) => Report::Waiting(empty),
         Answer::Complete(_) => {

@@ -16,7 +16,7 @@ passed : {x : Result (Unit {0}) Refusal} {n : ℕ} (y : Unit {0}) → x ≡ Ok y
 passed y e g = rw e at (sym g)
 
 pub returns-in-Err : goal.returns-in-Err
-returns-in-Err c = step_refused _ _ _ _ _ c.in-Err.ensures (refused_some c.in-Err.refusal)
+returns-in-Err c = step_refused _ _ _ _ _ (omega (arith, c.in-Err.ensures)) (λ z. refused_some c.in-Err.refusal (omega arith))
 
 pub read_parts-piece-requires : goal.read_parts-piece-requires
 read_parts-piece-requires c = fits_of _ (refusal_of-room _ _ _ (passed _ c.in_default.is c.refuse.ensures)).2
