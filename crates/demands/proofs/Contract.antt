@@ -1,6 +1,7 @@
 -- Contract: what the other files of this crate say of a contract.
 --
 --   Gives seen Met spec   whatever meets the contract on an argument shows, there, what the definition gives for it
+--   GivesBy seen Met spec   the same where what is shown is told by the argument too
 --   One seen Met          what two results of the same call show is the same
 --   only                  the first says the second
 --   Says T clauses Met    the written contract of a function is the plain fact Met, in every model of the logic
@@ -26,6 +27,9 @@ use denote.Triple.Clauses.{Ended, Clauses, AtExit}
 module _ {A X S L : Type 0} where
   abbrev pub Gives : (X → S → L) → (A → X → S → Type 0) → (A → L) → Type 0
   Gives seen Met spec = (a : A) (x : X) (s : S) → Met a x s → seen x s ≡ spec a
+
+  abbrev pub GivesBy : (A → X → S → L) → (A → X → S → Type 0) → (A → L) → Type 0
+  GivesBy seen Met spec = (a : A) (x : X) (s : S) → Met a x s → seen a x s ≡ spec a
 
   abbrev pub One : (X → S → L) → (A → X → S → Type 0) → Type 0
   One seen Met = (a : A) (x y : X) (s t : S) → Met a x s → Met a y t → seen x s ≡ seen y t

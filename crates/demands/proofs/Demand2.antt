@@ -29,8 +29,8 @@ use Rattle.messages.proofs.joined_part.Reads as joined_part_contract
 use Rattle.lending.specs.contracts.collect_lent as collect_lent
 use Rattle.lending.proofs.collect_lent.Statement as collect_lent'
 use Rattle.lending.proofs.collect_lent.Met as collect_lent''
-use Rattle.reader.specs.Read.{read_table}
-use Rattle.reader.proofs.Shown.{answer_as, shown_gives}
+use Rattle.reader.specs.Read.{Reading, read_table}
+use Rattle.reader.specs.Shown.{shown}
 use Rattle.reader.proofs.read_table.Reads as read-table
 use Rattle.reader.proofs.read_table.Statement as read_table'
 use Rattle.reader.proofs.read_table.Met as read_table''
@@ -102,8 +102,8 @@ collect_lent-front κs a x s h =
 pub read_table_met : {M : Type 1} → read_table'.statement M
 read_table_met = read_table''.met
 
-pub read_table_gives : (κs : Lfts 1) → Gives answer (read-table.Post κs) (λ a. answer_as (read_table a.0 a.1.0.now))
-read_table_gives κs a x s h = shown_gives _ h
+pub read_table_gives : (κs : Lfts 1) → Gives {L = Reading} (λ x s. shown x) (read-table.Post κs) (λ a. read_table a.0 a.1.0.now)
+read_table_gives κs a x s h = h
 
 -- ---- one body all the way: the report, the record, the table and both buffers
 

@@ -8,7 +8,7 @@ use denote.Triple.Entry.{Args, Res}
 use denote.Triple.Clauses.{AtExit}
 use Rattle.std.specs.Prelude.{Result}
 use Rattle.refusals.specs.declared.Refusal.{Refusal}
-use Rattle.demands.proofs.Contract.{Gives, Says, answer}
+use Rattle.demands.proofs.Contract.{Gives, GivesBy, Says, answer}
 use Rattle.order.specs.Best.{is_better}
 use Rattle.choice.specs.Choose.{choice_of, rule_at}
 use Rattle.order.proofs.is_better.Reads as is_better_contract
@@ -35,7 +35,7 @@ use Rattle.modem_record.specs.Record as kept
 use Rattle.modem_asked.specs.Asked as asked
 use Rattle.modem_record.specs.Record.{empty_modem}
 use Rattle.modem_step.specs.Step.{stepped_modem}
-use Rattle.modem_step.specs.Numbers.{as_numbers, answered, numbered_step}
+use Rattle.modem_step.specs.Numbers.{Numbered, as_numbers, told, answered, numbered_step}
 use Rattle.modem_step.proofs.Told.{as_answer, as_result, answered_is, told_only, told_step}
 use Rattle.modem.proofs.step_modem.Reads as step_modem_contract
 use Rattle.modem.proofs.step_modem.Statement as step_modem'
@@ -101,13 +101,21 @@ judge_lent_gives κs a x s h = h
 pub step_modem_met : {M : Type 1} → step_modem'.statement M
 step_modem_met = step_modem''.met
 
-pub step_modem_gives : (κs : Lfts 0) → Gives answer (step_modem_contract.Post κs) (λ a. as_result (stepped_modem a.0 a.1.0 a.1.1.0))
-step_modem_gives κs a x s h = told_only a.0 _ _ (h ∙ sym (told_step a.0 a.1.0 a.1.1.0))
+pub step_modem_gives : (κs : Lfts 0) → GivesBy {L = Numbered} (λ a x s. told a.0 x) (step_modem_contract.Post κs) (λ a. as_numbers (stepped_modem a.0 a.1.0 a.1.1.0))
+step_modem_gives κs a x s h = h
 
-pub step_numbered_gives : (κs : Lfts 0) → Gives answer (step_numbered_contract.Post κs)
+pub step_numbered_gives : (κs : Lfts 0) → GivesBy {L = Numbered} (λ a x s. told a.0 x) (step_numbered_contract.Post κs)
+    (λ a. let n = a.1.1.0 in numbered_step a.0 a.1.0 n.kind n.a n.b n.c n.d)
+step_numbered_gives κs a x s h = h
+
+-- the two as the `Result` itself
+pub step_modem_result : (κs : Lfts 0) → Gives answer (step_modem_contract.Post κs) (λ a. as_result (stepped_modem a.0 a.1.0 a.1.1.0))
+step_modem_result κs a x s h = told_only a.0 _ _ (h ∙ sym (told_step a.0 a.1.0 a.1.1.0))
+
+pub step_numbered_result : (κs : Lfts 0) → Gives answer (step_numbered_contract.Post κs)
     (λ a. let n = a.1.1.0 in as_result (stepped_modem a.0 a.1.0 (event_of n.kind n.a n.b n.c n.d)))
 unfolding numbered_step
-step_numbered_gives κs a x s h = let n = a.1.1.0 in told_only a.0 _ _ (h ∙ sym (told_step a.0 a.1.0 (event_of n.kind n.a n.b n.c n.d)))
+step_numbered_result κs a x s h = let n = a.1.1.0 in told_only a.0 _ _ (h ∙ sym (told_step a.0 a.1.0 (event_of n.kind n.a n.b n.c n.d)))
 
 pub transmits_gives : (κs : Lfts 0) → Gives answer (transmits_contract.Post κs) (λ a. asked.transmits a.0)
 transmits_gives κs a x s h = h
@@ -144,6 +152,11 @@ on_event_met = on_event''.met
 pub on_event_says : Says on_event.ended (λ M 𝓤 𝓛. on_event.clauses 𝓛) OnEvent
 on_event_says M 𝓤 𝓛 mem run κs a g x s = refl
 
-pub on_event_gives : (κs : Lfts 1) → Gives {L = Result Unit Refusal × Modem} (λ x s. (x, s.0.now)) (OnEvent κs)
+pub on_event_gives : (κs : Lfts 1) → Gives {L = Numbered} (λ x s. record { answer = answered x; modem = s.0.now }) (OnEvent κs)
+    (λ a. as_numbers (stepped_modem a.0.now a.1.0 a.1.1.0))
+on_event_gives κs a x s h = h
+
+-- with the `Result` itself
+pub on_event_result : (κs : Lfts 1) → Gives {L = Result Unit Refusal × Modem} (λ x s. (x, s.0.now)) (OnEvent κs)
     (λ a. let s = stepped_modem a.0.now a.1.0 a.1.1.0 in (as_answer s.answer, s.modem))
-on_event_gives κs a x s h = let p = answered_is x s.0.now (stepped_modem a.0.now a.1.0 a.1.1.0) h in rw (p.0, p.1)
+on_event_result κs a x s h = let p = answered_is x s.0.now (stepped_modem a.0.now a.1.0 a.1.1.0) h in rw (p.0, p.1)

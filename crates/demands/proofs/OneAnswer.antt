@@ -16,6 +16,7 @@ use Rattle.demands.proofs.Demand2 as demand2
 use Rattle.demands.proofs.Demand2Frames as frames
 use Rattle.collector.specs.Answers.{said}
 use Rattle.collector.specs.Step.{After}
+use Rattle.reader.proofs.Shown.{shown_only}
 use Rattle.reader.proofs.read_table.Reads as read_table_contract
 use Rattle.collection.proofs.empty_collection.Reads as empty_collection_contract
 use Rattle.collector.proofs.collect.Reads as collect_contract
@@ -76,7 +77,7 @@ collect_lent_one κs = only (demand2.collect_lent_gives κs)
 -- ---- reader
 
 pub read_table_one : (κs : Lfts 1) → One answer (read_table_contract.Post κs)
-read_table_one κs = only (demand2.read_table_gives κs)
+read_table_one κs a x y s t h g = shown_only x y (only (demand2.read_table_gives κs) a x y s t h g)
 
 -- ---- receiver
 
@@ -137,10 +138,10 @@ pub act_one : (κs : Lfts 0) → One answer (act_contract.Post κs)
 act_one κs = only (frames.act_gives κs)
 
 pub step_modem_one : (κs : Lfts 0) → One answer (step_modem_contract.Post κs)
-step_modem_one κs = only (frames.step_modem_gives κs)
+step_modem_one κs = only (frames.step_modem_result κs)
 
 pub step_numbered_one : (κs : Lfts 0) → One answer (step_numbered_contract.Post κs)
-step_numbered_one κs = only (frames.step_numbered_gives κs)
+step_numbered_one κs = only (frames.step_numbered_result κs)
 
 pub transmits_one : (κs : Lfts 0) → One answer (transmits_contract.Post κs)
 transmits_one κs = only (frames.transmits_gives κs)
@@ -149,4 +150,4 @@ pub forwards_one : (κs : Lfts 0) → One answer (forwards_contract.Post κs)
 forwards_one κs = only (frames.forwards_gives κs)
 
 pub on_event_one : (κs : Lfts 1) → One {L = Result Unit Refusal × Modem} (λ x s. (x, s.0.now)) (frames.OnEvent κs)
-on_event_one κs = only (frames.on_event_gives κs)
+on_event_one κs = only (frames.on_event_result κs)

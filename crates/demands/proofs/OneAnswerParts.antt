@@ -19,6 +19,7 @@ use Rattle.table.proofs.empty_client.Reads as empty_client_contract
 use Rattle.table.proofs.empty_rule.Reads as empty_rule_contract
 use Rattle.table.proofs.empty_classifier.Reads as empty_classifier_contract
 use Rattle.table.proofs.empty_table.Reads as empty_table_contract
+use Rattle.elements.proofs.Stood.{stood_only}
 use Rattle.elements.proofs.read_head.Reads as read_head_contract
 use Rattle.elements.proofs.value_at.Reads as value_at_contract
 use Rattle.children.specs.Children.{left}
@@ -26,7 +27,9 @@ use Rattle.children.proofs.children_of.Reads as children_of_contract
 use Rattle.children.proofs.inside.Reads as inside_contract
 use Rattle.types.proofs.find_type.Reads as find_type_contract
 use Rattle.musts.proofs.lacks_must.Reads as lacks_must_contract
+use Rattle.element_tests.proofs.Stepped.{step_of-only}
 use Rattle.element_tests.proofs.own_tests.Reads as own_tests_contract
+use Rattle.rows.proofs.Told.{tested_of-only}
 use Rattle.rows.proofs.empty_tally.Reads as empty_tally_contract
 use Rattle.rows.proofs.test_element.Reads as test_element_contract
 use Rattle.clients.proofs.read_clients.Reads as read_clients_contract
@@ -95,7 +98,7 @@ lacks_must_one κs = only (parts.lacks_must_gives κs)
 -- ---- elements
 
 pub read_head_one : (κs : Lfts 1) → One answer (read_head_contract.Post κs)
-read_head_one κs = only (parts.read_head_gives κs)
+read_head_one κs a x y s t h g = stood_only x y (only (parts.read_head_gives κs) a x y s t h g)
 
 pub value_at_one : (κs : Lfts 1) → One answer (value_at_contract.Post κs)
 value_at_one κs = only (parts.value_at_gives κs)
@@ -111,7 +114,7 @@ inside_one κs = only (parts.inside_gives κs)
 -- ---- element_tests
 
 pub own_tests_one : (κs : Lfts 1) → One answer (own_tests_contract.Post κs)
-own_tests_one κs = only (parts.own_tests_gives κs)
+own_tests_one κs a x y s t h g = step_of-only _ _ _ x y (parts.own_tests_gives κs a x s h ∙ sym (parts.own_tests_gives κs a y t g))
 
 -- ---- rows
 
@@ -119,7 +122,7 @@ pub empty_tally_one : (κs : Lfts 0) → One answer (empty_tally_contract.Post �
 empty_tally_one κs = only (parts.empty_tally_gives κs)
 
 pub test_element_one : (κs : Lfts 1) → One answer (test_element_contract.Post κs)
-test_element_one κs = only (parts.test_element_gives κs)
+test_element_one κs a x y s t h g = tested_of-only _ x y (parts.test_element_gives κs a x s h ∙ sym (parts.test_element_gives κs a y t g))
 
 -- ---- clients, rules, classifiers, configurations
 

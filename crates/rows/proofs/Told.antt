@@ -16,7 +16,7 @@ use Rattle.rows.specs.Told.{fault_of, tested_of}
 use Rattle.rows.specs.declared.Next.{Next}
 use Rattle.rows.specs.declared.Stopped.{Stopped}
 
-unfoldable pub row_as : Fault → Result (Unit {0}) Refused
+row_as : Fault → Result (Unit {0}) Refused
 row_as f = cond (eqb f.bad 0) (Ok tt) (Err (record { refusal = refusal_from f.bad; offset = f.off }))
 
 row_as_back : (own : ℕ) (r : Result (Unit {0}) Refused) → row_as (fault_of own r) ≡ r
@@ -35,7 +35,7 @@ pub fault_bad : (own : ℕ) (r : Refused) {f : Fault} → fault_of own (Err r) �
 unfolding fault_of
 fault_bad own r e z = number_of-some r.refusal (ap (λ (f : Fault). f.bad) e ∙ z)
 
-unfoldable pub next_as : Tested → Result Next Stopped
+next_as : Tested → Result Next Stopped
 next_as t =
     let next : Next = record { place = t.next; tally = t.tally } in
     cond (eqb t.bad 0) (Ok next) (Err (record { fault = record { refusal = refusal_from t.bad; offset = t.off }; next = next }))
