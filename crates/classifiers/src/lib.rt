@@ -44,7 +44,9 @@ fn with_part(message: &[u8], from: usize, end: usize, given: Classifier) -> Clas
     classifier
 }
 
-// The classifier of the element at `at`.
+// The classifier of the element at `at`. Never inlined: a function sets what it holds to 0 at its start, and the reader, which calls this
+// one for a classifier alone, would do so for every message.
+#[inline(never)]
 pub fn classifier_at(message: &[u8], at: usize) -> Classifier
     ensures { result ≡ classifier_at message.now at }
 {

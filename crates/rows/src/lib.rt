@@ -10,6 +10,7 @@
 #![tactic(auto)]
 
 ghost use Rattle.std.specs.Prelude.{◌≡◌, ◌+◌, ◌≤◌, ◌<◌, length};
+ghost use Rattle.elements.specs.Elements.{Value, head_at};
 ghost use Rattle.rows.specs.Tests.{is_row, row_end, none_counted, empty_tally};
 ghost use Rattle.rows.specs.Rows.{element_of, row_of, noted, tested_at};
 ghost use Rattle.rows.specs.Told.{fault_of, fault_in, tested_of};
@@ -136,6 +137,27 @@ fn row_from(message: &[u8], parent: usize, own: usize, from: usize, end: usize) 
     }
 }
 
+// `test_element` for a listed element whose head is whole, with a value of `len` bytes. It is a function of its own, since a function
+// sets what it holds to 0 at its start, and an element that is not listed needs none of this.
+fn test_whole(message: &[u8], at: usize, len: usize, tally: Tally) -> Result<Next, Stopped>
+    requires { Value len ≡ head_at message.now at (length message.now) }
+    ensures { tested_of at result ≡ tested_at message.now at tally }
+{
+    let place = at + 2 + len;
+    let mut after = tally;
+    if let Err(fault) = element(message, types::TOP_LEVEL, at, len, &mut after.counts) {
+        let next = Next {
+            place,
+            tally: after,
+        };
+        return Err(Stopped { fault, next });
+    }
+    Ok(Next {
+        place,
+        tally: after,
+    })
+}
+
 // The top-level element at `at`, after those that `tally` counts: the first refusal of 6 to 13 in it, or none; and what stands
 // after it. Past the last element nothing is refused and nothing changes. An element that is not listed costs no call.
 pub fn test_element(message: &[u8], at: usize, tally: Tally) -> Result<Next, Stopped>
@@ -151,20 +173,12 @@ pub fn test_element(message: &[u8], at: usize, tally: Tally) -> Result<Next, Sto
             next: Next { place: at, tally },
         }),
         Ok(Some(len)) => {
-            let place = at + 2 + len;
-            let mut after = tally;
             if types::find_type(types::TOP_LEVEL, message[at]).is_some() {
-                if let Err(fault) = element(message, types::TOP_LEVEL, at, len, &mut after.counts) {
-                    let next = Next {
-                        place,
-                        tally: after,
-                    };
-                    return Err(Stopped { fault, next });
-                }
+                return test_whole(message, at, len, tally);
             }
             Ok(Next {
-                place,
-                tally: after,
+                place: at + 2 + len,
+                tally,
             })
         }
     }

@@ -22,7 +22,8 @@ fn ucids_at(message: &[u8], value: usize, len: usize) -> [u8; 16]
     list
 }
 
-// The rule of the element at `at`.
+// The rule of the element at `at`. Never inlined, as `classifiers::classifier_at`: what it holds would be set to 0 for every message.
+#[inline(never)]
 pub fn rule_at(message: &[u8], at: usize) -> Rule
     ensures { result ≡ rule_at message.now at }
 {

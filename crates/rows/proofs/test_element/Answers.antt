@@ -31,14 +31,14 @@ missed (Some k) u h e = absurd (cc)
 pub bounds-message-at : goal.bounds-message-at
 bounds-message-at c = omega (arith, fits _ _ c.read_head.ensures (stood_value c.in-Ok-Some.is c.in-Ok-Some.field-0-is))
 
-pub element-requires : goal.element-requires
-element-requires c = fits _ _ c.read_head.ensures (stood_value c.in-Ok-Some.is c.in-Ok-Some.field-0-is)
+pub test_whole-requires : goal.test_whole-requires
+test_whole-requires c = sym (stood_value c.in-Ok-Some.is c.in-Ok-Some.field-0-is) ∙ c.read_head.ensures
 
-pub overflow_add-place : goal.overflow_add-place
-overflow_add-place c = omega (arith, fits _ _ c.read_head.ensures (stood_value c.in-Ok-Some.is c.in-Ok-Some.field-0-is))
+pub overflow_add-result : goal.overflow_add-result
+overflow_add-result c = omega (arith, fits _ _ c.read_head.ensures (stood_value c.in-Ok-Some.is c.in-Ok-Some.field-0-is))
 
-pub overflow_add-place-in-Ok-Some : goal.overflow_add-place-in-Ok-Some
-overflow_add-place-in-Ok-Some c = omega (arith, fits _ _ c.read_head.ensures (stood_value c.in-Ok-Some.is c.in-Ok-Some.field-0-is))
+pub overflow_add-result-in-Ok-Some : goal.overflow_add-result-in-Ok-Some
+overflow_add-result-in-Ok-Some c = omega (arith, fits _ _ c.read_head.ensures (stood_value c.in-Ok-Some.is c.in-Ok-Some.field-0-is))
 
 pub returns-in-Ok-None : goal.returns-in-Ok-None
 unfolding tested_of
@@ -47,18 +47,6 @@ returns-in-Ok-None c = top_ends _ _ _ c.read_head.ensures (stood_end c.in-Ok-Non
 pub returns-in-Err : goal.returns-in-Err
 unfolding tested_of
 returns-in-Err c = top_bad _ _ _ c.read_head.ensures (stood_refused c.in-Err.is)
-
--- the element is refused
-pub returns-in-Err-element : goal.returns-in-Err-element
-unfolding tested_of fault_of
-returns-in-Err-element c =
-    top_goes _ _ _ c.read_head.ensures (stood_value c.in-Ok-Some.is c.in-Ok-Some.field-0-is) refl c.in-Err-element.ensures.fault c.in-Err-element.ensures.counted
-
--- it is fine
-pub returns-in_default : goal.returns-in_default
-unfolding tested_of fault_of
-returns-in_default c =
-    top_goes _ _ _ c.read_head.ensures (stood_value c.in-Ok-Some.is c.in-Ok-Some.field-0-is) refl c.in_default.ensures.fault c.in_default.ensures.counted
 
 -- it is skipped
 pub returns-else-is_some : goal.returns-else-is_some
