@@ -82,7 +82,7 @@ module _ (msg : List ℕ) where
   tops_element {u} {t} {next} kind list n v few fine free took at s =
       let e : at + 2 + length v ≡ at + length (element kind v) = omega arith in
       let r : Tested = record { bad = 0; off = at; next = at + 2 + length v; tally = tallied (set u list n) } in
-      let h : r ≡ tested_at msg at (tallied u) = top_goes msg at (tallied u) (sym ((stands_head {v = v} s (length msg) few (omega (arith, s.fits))))) refl (sym (fine at s)) refl in
+      let h : r ≡ tested_at msg at (tallied u) = top_goes msg at (tallied u) (sym ((stands_head {v = v} s (length msg) few (omega (arith, s.fits))))) refl (sym (fine at s)) refl refl in
       record {
         goes = λ given.
             sym (read_goes msg at (tallied u) h (omega (arith, s.fits)) given t refl (free at s) (sym (took at s)))
