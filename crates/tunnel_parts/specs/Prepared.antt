@@ -2,11 +2,12 @@
 --
 --   entry_at tu i             the entry at a place of a tunnel
 --   entries_of tu             the entries of any lent tunnel; a count above 32 is read as 32
+--   entry_verdict tu fits     the verdict by the first entry that passes a test
 --   prepared_verdict tu frame the verdict by a lent tunnel: the first entry that matches
 --
 -- Mode 0: no rule fits. Mode 1: the rule names no classifier. Any other: by the entries. Unused places are not looked at.
 -- That both ways give one verdict is `prepared_same` in proofs/Same.antt of crate preparing. Trusts: nothing.
-use Rattle.std.specs.Prelude.{ℕ, zero, suc, cond, not, List, [], ◌∷◌, get_or, ltb, eqb}
+use Rattle.std.specs.Prelude.{ℕ, zero, suc, Bool, cond, not, List, [], ◌∷◌, get_or, ltb, eqb}
 use Rattle.table.specs.Table.{limited_to}
 use Rattle.order.specs.Best.{first_place}
 use Rattle.matching.specs.declared.Entry.{Entry}
@@ -33,6 +34,12 @@ list_from at i (suc n) = at i ∷ list_from at (suc i) n
 
 unfoldable pub entries_of : Tunnel → List Entry
 entries_of tu = list_from (λ i. entry_at tu i) 0 (limited_to 32 tu.count)
+
+-- the verdict by the first entry that passes a test
+unfoldable pub entry_verdict : Tunnel → (Entry → Bool) → Verdict
+entry_verdict tu fits =
+    let place = first_place fits (entries_of tu) in
+    cond (ltb place (limited_to 32 tu.count)) (Forward (get_or tu.numbers place 0)) Filtered
 
 unfoldable pub prepared_verdict : Tunnel → List ℕ → Verdict
 prepared_verdict tu frame =

@@ -15,29 +15,29 @@ use Rattle.tunnel_parts.proofs.has_address.Goals as goal
 
 -- a number in two parts is another where both parts are the other's
 module _ (n h l a : ℕ) (e : n ≡ h * 65536 + l) (small : l < 65536) where
-  high-apart : (h ≡ a / 65536 → ⊥) → n ≡ a → ⊥
-  high-apart other same =
+  low-apart : (l ≡ a % 65536 → ⊥) → n ≡ a → ⊥
+  low-apart other same =
       let rest : a % 65536 < 65536 = mod-lt a (omega arith) in
       other (omega (arith, div-add-mod' a 65536))
 
-  low-decides : h ≡ a / 65536 → eqb l (a % 65536) ≡ eqb n a
-  low-decides eh = go (eqb l (a % 65536)) refl
+  high-decides : l ≡ a % 65536 → eqb h (a / 65536) ≡ eqb n a
+  high-decides el = go (eqb h (a / 65536)) refl
     where
-      go : (b : Bool) → eqb l (a % 65536) ≡ b → b ≡ eqb n a
-      go true t = let el = eqb-true l (a % 65536) t in sym (eq-eqb n a (omega (arith, div-add-mod' a 65536)))
-      go false t = sym (ne_eqb n a (λ same. eqb-false l (a % 65536) t (omega (arith, div-add-mod' a 65536))))
+      go : (b : Bool) → eqb h (a / 65536) ≡ b → b ≡ eqb n a
+      go true t = let eh = eqb-true h (a / 65536) t in sym (eq-eqb n a (omega (arith, div-add-mod' a 65536)))
+      go false t = sym (ne_eqb n a (λ same. eqb-false h (a / 65536) t (omega (arith, div-add-mod' a 65536))))
 
 whole : (frame : List ℕ) (h l : ℕ) → h ≡ number_at 4 frame 0 → l ≡ number_at 2 frame 4 → address_at frame ≡ h * 65536 + l
 unfolding address_at
 whole frame h l eh el = omega (arith, number_at_add 4 2 frame 0)
 
-pub returns-then-high-address : goal.returns-then-high-address
-returns-then-high-address c =
+pub returns-then-low-address : goal.returns-then-low-address
+returns-then-low-address c =
     let low : c.from-low.result < 65536 = omega (arith, c.from-low.ensures) in
-    low-decides _ _ _ _ (whole _ _ _ (c.from-high.ensures ∙ c.number4.ensures) (c.from-low.ensures ∙ c.number2.ensures)) low c.if-high-address.true
+    high-decides _ _ _ _ (whole _ _ _ (c.from-high.ensures ∙ c.number4.ensures) (c.from-low.ensures ∙ c.number2.ensures)) low c.if-low-address.true
 
-pub returns-else-high-address : goal.returns-else-high-address
-returns-else-high-address c =
+pub returns-else-low-address : goal.returns-else-low-address
+returns-else-low-address c =
     let low : c.from-low.result < 65536 = omega (arith, c.from-low.ensures) in
-    let apart = high-apart _ _ _ c.args.address (whole _ _ _ (c.from-high.ensures ∙ c.number4.ensures) (c.from-low.ensures ∙ c.number2.ensures)) low c.if-high-address.false in
-    ne_eqb _ _ c.if-high-address.false ∙ sym (ne_eqb _ _ apart)
+    let apart = low-apart _ _ _ c.args.address (whole _ _ _ (c.from-high.ensures ∙ c.number4.ensures) (c.from-low.ensures ∙ c.number2.ensures)) low c.if-low-address.false in
+    ne_eqb _ _ c.if-low-address.false ∙ sym (ne_eqb _ _ apart)
