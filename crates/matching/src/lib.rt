@@ -32,7 +32,7 @@ pub struct Entry {
 fn port_fits(port: Port, start: u16, end: u16) -> bool
     ensures { result ≡ port_fits port start end }
 {
-    port.present & ((start <= port.number) & (port.number <= end))
+    port.present && (start <= port.number) & (port.number <= end)
 }
 
 // The mark's value where it is there, else the other.
