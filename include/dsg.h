@@ -37,8 +37,8 @@
  * mean nothing and may change at any call that is lent the record to write: compare records field by field.
  *
  * Memory that a board needs: the records below and two buffers of DSG_BUFFER_BYTES, some 55,000 bytes. Stack, as
- * examples/stack.c measures it on x86-64 and on Arm: dsg_list_body 134,900 bytes, dsg_receive 87,100, dsg_read 66,700,
- * dsg_judge 26,500, dsg_prepare 25,600, dsg_list_table 20,300, dsg_write 19,500, dsg_choose 13,300, dsg_collect 4,000;
+ * examples/stack.c measures it on x86-64: dsg_list_body 128,700 bytes, dsg_receive 80,900, dsg_read 60,600,
+ * dsg_judge 26,500, dsg_prepare 22,000, dsg_list_table 20,200, dsg_write 19,500, dsg_choose 13,300, dsg_collect 4,000;
  * what runs for each frame and event (dsg_judge_prepared, dsg_event, dsg_transmits, dsg_forwards) and the empty records under 200. Of the C library
  * only memcpy, memmove and memset are called.
  */
