@@ -1,5 +1,6 @@
 -- Laws of one step (specs/Step.antt): what the piece is added to, and one law for each answer of `collect`.
 --
+--   empty_slots_counted    `empty_slots` is the count of the flags of 0 among the first n
 --   relation_by            how a piece stands to what is held, by the parts of its body
 --   base_goes_on, base-anew, base_of_number, base_of_short    the record that the piece is noted in
 --   set_bound              a length more that keeps the bound
@@ -11,6 +12,9 @@ use mathlib.Core.Path.{◌≡◌, refl, ap, ◌∙◌}
 use mathlib.Core.Bool.{Bool, true, false, cond}
 use mathlib.Core.List.{List, [], ◌∷◌, ◌++◌}
 use native.Mathlib.Omega.{arith}
+use Rattle.std.specs.Prelude.{count_by}
+use Rattle.std.proofs.lemmas.List.Sums.{sum_by_more}
+use native.Mathlib.Numerals.{add-one}
 use borrow.Author.Tests.{eqb-true, eq-eqb, ne_eqb}
 use lib.ListN.{length, get_or, set, get_or-replicate, take, drop, length-drop, length-append}
 use lib.Seq.{length-take-le, take-append_seam}
@@ -28,6 +32,16 @@ use Rattle.collector.specs.Step.{relation_of, base_of, noted, After, after, Sett
 use Rattle.collector.specs.Duties.{Parts, stored_step}
 use Rattle.collection.specs.declared.Collection.{Collection}
 use Rattle.held.proofs.Laws.{well_made-short}
+
+-- ---- the empty slots
+
+pub empty_slots_counted : (filled : List ℕ) (n : ℕ) → n ≤ length filled → count_by (λ x. eqb x 0) (take n filled) ≡ empty_slots filled n
+unfolding empty_slots
+empty_slots_counted filled zero h = refl
+empty_slots_counted filled (suc n) h =
+    let e : count_by (λ x. eqb x 0) (take (n + 1) filled) ≡ count_by (λ x. eqb x 0) (take n filled) + cond (eqb (get_or filled n 0) 0) 1 0 =
+    sum_by_more (λ x. cond (eqb x 0) 1 0) filled n 0 (omega arith) in
+    rw add-one at e ∙ ap (λ (t : ℕ). t + cond (eqb (get_or filled n 0) 0) 1 0) (empty_slots_counted filled n (omega arith))
 
 -- ---- the record
 

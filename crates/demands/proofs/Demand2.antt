@@ -2,7 +2,8 @@
 -- judging a frame and stepping the modem.
 --
 -- For each entry, NAME-met: the compiled function meets its contract, as its own crate proves; and NAME-gives: whatever meets that contract
--- gives, for every input, the definition. What the definitions mean is for a reader to see (docs/MAP.md).
+-- gives, for every input, the definition; read_table_result is the same as the record itself. What the definitions mean is for a reader to see
+-- (docs/MAP.md).
 -- Trusts: nothing.
 use mathlib.Core.Path.{◌≡◌, refl, subst⁻¹}
 use lib.ListN.{length, take}
@@ -31,6 +32,7 @@ use Rattle.lending.proofs.collect_lent.Statement as collect_lent'
 use Rattle.lending.proofs.collect_lent.Met as collect_lent''
 use Rattle.reader.specs.Read.{Reading, read_table}
 use Rattle.reader.specs.Shown.{shown}
+use Rattle.reader.proofs.Shown.{answer_as, shown_gives}
 use Rattle.reader.proofs.read_table.Reads as read-table
 use Rattle.reader.proofs.read_table.Statement as read_table'
 use Rattle.reader.proofs.read_table.Met as read_table''
@@ -104,6 +106,10 @@ read_table_met = read_table''.met
 
 pub read_table_gives : (κs : Lfts 1) → Gives {L = Reading} (λ x s. shown x) (read-table.Post κs) (λ a. read_table a.0 a.1.0.now)
 read_table_gives κs a x s h = h
+
+-- as the record itself
+pub read_table_result : (κs : Lfts 1) → Gives answer (read-table.Post κs) (λ a. answer_as (read_table a.0 a.1.0.now))
+read_table_result κs a x s h = shown_gives _ h
 
 -- ---- one body all the way: the report, the record, the table and both buffers
 

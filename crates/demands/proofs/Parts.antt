@@ -26,6 +26,7 @@ use Rattle.table.proofs.empty_classifier.Reads as empty_classifier_contract
 use Rattle.table.proofs.empty_table.Reads as empty_table_contract
 use Rattle.elements.specs.Elements.{Head, value_in, head_at}
 use Rattle.elements.specs.Stood.{stood}
+use Rattle.elements.proofs.Stood.{answer_as, stood_gives}
 use Rattle.elements.proofs.read_head.Reads as read_head_contract
 use Rattle.elements.proofs.value_at.Reads as value_at_contract
 use Rattle.children.specs.Rows.{row_in, row_inside}
@@ -40,10 +41,12 @@ use Rattle.types.proofs.find_type.Reads as find_type_contract
 use Rattle.musts.proofs.lacks_must.Reads as lacks_must_contract
 use Rattle.element_tests.specs.Tests.{Step, own_tests}
 use Rattle.element_tests.specs.Stepped.{step_of}
+use Rattle.element_tests.proofs.Stepped.{count_as, step_gives}
 use Rattle.element_tests.proofs.own_tests.Reads as own_tests_contract
 use Rattle.rows.specs.Tests.{empty_tally}
 use Rattle.rows.specs.Rows.{Tested, tested_at}
 use Rattle.rows.specs.Told.{tested_of}
+use Rattle.rows.proofs.Told.{next_as, tested_gives}
 use Rattle.rows.proofs.empty_tally.Reads as empty_tally_contract
 use Rattle.rows.proofs.test_element.Reads as test_element_contract
 use Rattle.clients.specs.Clients.{clients_in}
@@ -120,6 +123,10 @@ lacks_must_gives κs a x s h = h
 pub read_head_gives : (κs : Lfts 1) → Gives {L = Head} (λ x s. stood x) (read_head_contract.Post κs) (λ a. head_at a.0.now a.1.0 a.1.1.0)
 read_head_gives κs a x s h = h
 
+-- as the `Result` itself
+pub read_head_result : (κs : Lfts 1) → Gives answer (read_head_contract.Post κs) (λ a. answer_as (head_at a.0.now a.1.0 a.1.1.0))
+read_head_result κs a x s h = stood_gives _ h
+
 pub value_at_gives : (κs : Lfts 1) → Gives answer (value_at_contract.Post κs) (λ a. value_in (head_at a.0.now a.1.0 a.1.1.0))
 value_at_gives κs a x s h = h
 
@@ -137,6 +144,9 @@ pub own_tests_gives : (κs : Lfts 1) → GivesBy {L = Step} (λ a x s. step_of a
     (λ a. own_tests a.0.now a.1.0 a.1.1.0 a.1.1.1.0 a.1.1.1.1.0)
 own_tests_gives κs a x s h = h
 
+pub own_tests_result : (κs : Lfts 1) → Gives answer (own_tests_contract.Post κs) (λ a. count_as (own_tests a.0.now a.1.0 a.1.1.0 a.1.1.1.0 a.1.1.1.1.0))
+own_tests_result κs a x s h = step_gives _ _ _ _ h
+
 -- ---- rows
 
 pub empty_tally_gives : (κs : Lfts 0) → Gives answer (empty_tally_contract.Post κs) (λ a. empty_tally)
@@ -144,6 +154,9 @@ empty_tally_gives κs a x s h = h
 
 pub test_element_gives : (κs : Lfts 1) → GivesBy {L = Tested} (λ a x s. tested_of a.1.0 x) (test_element_contract.Post κs) (λ a. tested_at a.0.now a.1.0 a.1.1.0)
 test_element_gives κs a x s h = h
+
+pub test_element_result : (κs : Lfts 1) → Gives answer (test_element_contract.Post κs) (λ a. next_as (tested_at a.0.now a.1.0 a.1.1.0))
+test_element_result κs a x s h = tested_gives _ _ h
 
 -- ---- clients, rules, classifiers, configurations
 

@@ -1,6 +1,7 @@
 -- What stands at a place is known by the answer (specs/Stood.antt).
 --
 --   stood_only    two answers of which the same stands are the same
+--   answer_as, stood_gives   the answer of which this stands
 --   stood_end, stood_value, stood_refused   what stands by each answer
 --   value_told    the length in an answer is that of what stands
 --   value_some    an element stands, and this is its value's length
@@ -15,7 +16,7 @@ use Rattle.refusals.proofs.Only.{refusal_from, refusal_from-back}
 use Rattle.elements.specs.Elements.{Head, End, Refused, Value, value_in}
 use Rattle.elements.specs.Stood.{stood}
 
-answer_as : Head → Result (Option ℕ) Refusal
+unfoldable pub answer_as : Head → Result (Option ℕ) Refusal
 answer_as End = Ok None
 answer_as (Refused n) = Err (refusal_from n)
 answer_as (Value len) = Ok (Some len)
@@ -28,6 +29,9 @@ answer_as_back (Err r) = ap Err (refusal_from-back r)
 
 pub stood_only : (r q : Result (Option ℕ) Refusal) → stood r ≡ stood q → r ≡ q
 stood_only r q e = sym (answer_as_back r) ∙ ap answer_as e ∙ answer_as_back q
+
+pub stood_gives : (r : Result (Option ℕ) Refusal) {h : Head} → stood r ≡ h → r ≡ answer_as h
+stood_gives r e = sym (answer_as_back r) ∙ ap answer_as e
 
 pub value_told : (r : Result (Option ℕ) Refusal) → result_unwrap_or r None ≡ value_in (stood r)
 unfolding stood

@@ -2,6 +2,7 @@
 --
 --   fault_of-only, tested_of-only   two answers that say the same are the same
 --   fault_fine, fault_bad           an answer that is fine says no refusal; one that is a refusal does
+--   next_as, tested_gives           the answer that says this of a top-level element
 --   tested_fine, tested_bad         what stands after a top-level element that is fine; the refusal of one that is not
 -- Trusts: nothing.
 use mathlib.Core.Path.{◌≡◌, refl, sym, ap, ◌∙◌}
@@ -16,7 +17,7 @@ use Rattle.rows.specs.Told.{fault_of, tested_of}
 use Rattle.rows.specs.declared.Next.{Next}
 use Rattle.rows.specs.declared.Stopped.{Stopped}
 
-row_as : Fault → Result (Unit {0}) Refused
+unfoldable pub row_as : Fault → Result (Unit {0}) Refused
 row_as f = cond (eqb f.bad 0) (Ok tt) (Err (record { refusal = refusal_from f.bad; offset = f.off }))
 
 row_as_back : (own : ℕ) (r : Result (Unit {0}) Refused) → row_as (fault_of own r) ≡ r
@@ -35,7 +36,7 @@ pub fault_bad : (own : ℕ) (r : Refused) {f : Fault} → fault_of own (Err r) �
 unfolding fault_of
 fault_bad own r e z = number_of-some r.refusal (ap (λ (f : Fault). f.bad) e ∙ z)
 
-next_as : Tested → Result Next Stopped
+unfoldable pub next_as : Tested → Result Next Stopped
 next_as t =
     let next : Next = record { place = t.next; tally = t.tally } in
     cond (eqb t.bad 0) (Ok next) (Err (record { fault = record { refusal = refusal_from t.bad; offset = t.off }; next = next }))
@@ -47,6 +48,9 @@ next_as_back at (Err s) = simp (ne_eqb _ _ (number_of-some s.fault.refusal), ref
 
 pub tested_of-only : (at : ℕ) (r q : Result Next Stopped) → tested_of at r ≡ tested_of at q → r ≡ q
 tested_of-only at r q e = sym (next_as_back at r) ∙ ap next_as e ∙ next_as_back at q
+
+pub tested_gives : (at : ℕ) (r : Result Next Stopped) {t : Tested} → tested_of at r ≡ t → r ≡ next_as t
+tested_gives at r e = sym (next_as_back at r) ∙ ap next_as e
 
 pub tested_fine : (at : ℕ) (n : Next) {t : Tested} → tested_of at (Ok n) ≡ t → (t.bad ≡ 0) × (n.place ≡ t.next) × (n.tally ≡ t.tally)
 unfolding tested_of
