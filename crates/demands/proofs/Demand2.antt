@@ -2,8 +2,8 @@
 -- judging a frame and stepping the modem.
 --
 -- For each entry, NAME-met: the compiled function meets its contract, as its own crate proves; and NAME-gives: whatever meets that contract
--- gives, for every input, the definition; read_table_result is the same as the record itself. What the definitions mean is for a reader to see
--- (docs/MAP.md).
+-- gives, for every input, the definition. read_table_result says of the record itself what read_table_gives says by `shown`. What the
+-- definitions mean is for a reader to see (docs/MAP.md).
 -- Trusts: nothing.
 use mathlib.Core.Path.{◌≡◌, refl, subst⁻¹}
 use lib.ListN.{length, take}
@@ -107,7 +107,7 @@ read_table_met = read_table''.met
 pub read_table_gives : (κs : Lfts 1) → Gives {L = Reading} (λ x s. shown x) (read-table.Post κs) (λ a. read_table a.0 a.1.0.now)
 read_table_gives κs a x s h = h
 
--- as the record itself
+-- the record itself
 pub read_table_result : (κs : Lfts 1) → Gives answer (read-table.Post κs) (λ a. answer_as (read_table a.0 a.1.0.now))
 read_table_result κs a x s h = shown_gives _ h
 

@@ -123,7 +123,7 @@ lacks_must_gives κs a x s h = h
 pub read_head_gives : (κs : Lfts 1) → Gives {L = Head} (λ x s. stood x) (read_head_contract.Post κs) (λ a. head_at a.0.now a.1.0 a.1.1.0)
 read_head_gives κs a x s h = h
 
--- as the `Result` itself
+-- the `Result` itself
 pub read_head_result : (κs : Lfts 1) → Gives answer (read_head_contract.Post κs) (λ a. answer_as (head_at a.0.now a.1.0 a.1.1.0))
 read_head_result κs a x s h = stood_gives _ h
 
@@ -144,6 +144,7 @@ pub own_tests_gives : (κs : Lfts 1) → GivesBy {L = Step} (λ a x s. step_of a
     (λ a. own_tests a.0.now a.1.0 a.1.1.0 a.1.1.1.0 a.1.1.1.1.0)
 own_tests_gives κs a x s h = h
 
+-- the `Result` itself
 pub own_tests_result : (κs : Lfts 1) → Gives answer (own_tests_contract.Post κs) (λ a. count_as (own_tests a.0.now a.1.0 a.1.1.0 a.1.1.1.0 a.1.1.1.1.0))
 own_tests_result κs a x s h = step_gives _ _ _ _ h
 
@@ -155,6 +156,7 @@ empty_tally_gives κs a x s h = h
 pub test_element_gives : (κs : Lfts 1) → GivesBy {L = Tested} (λ a x s. tested_of a.1.0 x) (test_element_contract.Post κs) (λ a. tested_at a.0.now a.1.0 a.1.1.0)
 test_element_gives κs a x s h = h
 
+-- the `Result` itself
 pub test_element_result : (κs : Lfts 1) → Gives answer (test_element_contract.Post κs) (λ a. next_as (tested_at a.0.now a.1.0 a.1.1.0))
 test_element_result κs a x s h = tested_gives _ _ h
 

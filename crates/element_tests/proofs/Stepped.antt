@@ -22,11 +22,11 @@ module _ (at list count : ℕ) where
   count_as_back (Ok n) = refl
   count_as_back (Err r) = simp (ne_eqb _ _ (number_of-some r), refusal_from-back r)
 
-  pub step_of-only : (r q : Result ℕ Refusal) → step_of at list count r ≡ step_of at list count q → r ≡ q
-  step_of-only r q e = sym (count_as_back r) ∙ ap count_as e ∙ count_as_back q
-
   pub step_gives : (r : Result ℕ Refusal) {s : Step} → step_of at list count r ≡ s → r ≡ count_as s
   step_gives r e = sym (count_as_back r) ∙ ap count_as e
+
+  pub step_of-only : (r q : Result ℕ Refusal) → step_of at list count r ≡ step_of at list count q → r ≡ q
+  step_of-only r q e = step_gives r e ∙ count_as_back q
 
   pub step_counts : (n : ℕ) → step_of at list count (Ok n) ≡ stepped 0 at list n
   unfolding step_of

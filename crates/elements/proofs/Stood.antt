@@ -27,11 +27,11 @@ answer_as_back (Ok None) = refl
 answer_as_back (Ok (Some len)) = refl
 answer_as_back (Err r) = ap Err (refusal_from-back r)
 
-pub stood_only : (r q : Result (Option ℕ) Refusal) → stood r ≡ stood q → r ≡ q
-stood_only r q e = sym (answer_as_back r) ∙ ap answer_as e ∙ answer_as_back q
-
 pub stood_gives : (r : Result (Option ℕ) Refusal) {h : Head} → stood r ≡ h → r ≡ answer_as h
 stood_gives r e = sym (answer_as_back r) ∙ ap answer_as e
+
+pub stood_only : (r q : Result (Option ℕ) Refusal) → stood r ≡ stood q → r ≡ q
+stood_only r q e = stood_gives r e ∙ answer_as_back q
 
 pub value_told : (r : Result (Option ℕ) Refusal) → result_unwrap_or r None ≡ value_in (stood r)
 unfolding stood

@@ -27,8 +27,8 @@ answer_as_back : (r : Answer) → answer_as (shown r) ≡ r
 unfolding shown answer_as
 answer_as_back r = rw (verdict_as_back r.verdict)
 
-pub shown_only : (r s : Answer) → shown r ≡ shown s → r ≡ s
-shown_only r s e = sym (answer_as_back r) ∙ ap answer_as e ∙ answer_as_back s
-
 pub shown_gives : (r : Answer) {s : Reading} → shown r ≡ s → r ≡ answer_as s
 shown_gives r e = sym (answer_as_back r) ∙ ap answer_as e
+
+pub shown_only : (r s : Answer) → shown r ≡ shown s → r ≡ s
+shown_only r s e = shown_gives r e ∙ answer_as_back s

@@ -46,11 +46,11 @@ unfolding tested_of next_as
 next_as_back at (Ok n) = refl
 next_as_back at (Err s) = simp (ne_eqb _ _ (number_of-some s.fault.refusal), refusal_from-back s.fault.refusal)
 
-pub tested_of-only : (at : ℕ) (r q : Result Next Stopped) → tested_of at r ≡ tested_of at q → r ≡ q
-tested_of-only at r q e = sym (next_as_back at r) ∙ ap next_as e ∙ next_as_back at q
-
 pub tested_gives : (at : ℕ) (r : Result Next Stopped) {t : Tested} → tested_of at r ≡ t → r ≡ next_as t
 tested_gives at r e = sym (next_as_back at r) ∙ ap next_as e
+
+pub tested_of-only : (at : ℕ) (r q : Result Next Stopped) → tested_of at r ≡ tested_of at q → r ≡ q
+tested_of-only at r q e = tested_gives at r e ∙ next_as_back at q
 
 pub tested_fine : (at : ℕ) (n : Next) {t : Tested} → tested_of at (Ok n) ≡ t → (t.bad ≡ 0) × (n.place ≡ t.next) × (n.tally ≡ t.tally)
 unfolding tested_of
